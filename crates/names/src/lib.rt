@@ -3,6 +3,8 @@ ghost use Rattle.std.specs.shelf.Text.{sameBytes};
 ghost use Rattle.names.specs.Names.{letter, digit, word, hyphen};
 ghost use Rattle.names.specs.Paths.{joined};
 
+pub mod standard;
+
 // Whether two texts are the same.
 pub fn same(a: &[u8], b: &[u8]) -> bool
     ensures { λ r. ⌜ r ≡ sameBytes (now (a .entry)) (now (b .entry)) ⌝ }
