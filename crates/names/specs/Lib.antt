@@ -1,3 +1,5 @@
 pub mod Names
+pub mod Faults
+pub mod Scan
 pub mod Paths
 pub mod Standard

@@ -18,10 +18,17 @@ abbrev pub onto : ℕ → List Bytes → List Bytes
 onto b [] = (b ∷ []) ∷ []
 onto b (p ∷ ps) = (b ∷ p) ∷ ps
 
--- the pieces between the separators c: one more than there are separators
-abbrev pub split : ℕ → Bytes → List Bytes
-split c [] = [] ∷ []
-split c (b ∷ bs) = cond (eqb b c) ([] ∷ split c bs) (onto b (split c bs))
+-- the pieces between separators: one more than there are separators
+abbrev pub pieces : (ℕ → Bool) → Bytes → List Bytes
+pieces separates [] = [] ∷ []
+pieces separates (b ∷ bs) = cond (separates b) ([] ∷ pieces separates bs) (onto b (pieces separates bs))
+
+-- what stands between slashes; between dots
+abbrev pub slash : ℕ → Bool
+slash b = eqb b 47
+
+abbrev pub dot : ℕ → Bool
+dot b = eqb b 46
 
 -- [A-Z] [a-z] _
 abbrev pub letter : ℕ → Bool
@@ -64,7 +71,7 @@ uniqueElement = element (λ b. word b || hyphen b) (λ b. word b || hyphen b)
 abbrev pub elementsOf : Bytes → List Bytes
 elementsOf [] = []
 elementsOf (b ∷ []) = []
-elementsOf (b ∷ c ∷ bs) = split 47 (c ∷ bs)
+elementsOf (b ∷ c ∷ bs) = pieces slash (c ∷ bs)
 
 -- a slash, and elements between slashes; of any length
 unfoldable pub validPath : Bytes → Bool
@@ -73,7 +80,7 @@ validPath (b ∷ bs) = eqb b 47 && all pathElement (elementsOf (b ∷ bs))
 
 -- two or more elements between dots
 abbrev pub dotted : (Bytes → Bool) → Bytes → Bool
-dotted good bs = leb 2 (length (split 46 bs)) && all good (split 46 bs)
+dotted good bs = leb 2 (length (pieces dot bs)) && all good (pieces dot bs)
 
 -- a colon, and such elements
 abbrev pub coloned : (Bytes → Bool) → Bytes → Bool
