@@ -85,11 +85,11 @@ module _ (a : Alphabet) where
   pub spells-run : (bs : Bytes) → spells a bs ≡ accepts (run (Some true) bs)
   spells-run bs = sym (agree true bs)
 
-  run-end : (o : Option Bool) → run o [] ≡ o
+  pub run-end : (o : Option Bool) → run o [] ≡ o
   run-end None = refl
   run-end (Some f) = refl
 
-  take-rest : (i : ℕ) (s : Bytes) → take i s ++ drop i s ≡ s
+  pub take-rest : (i : ℕ) (s : Bytes) → take i s ++ drop i s ≡ s
   take-rest zero s = refl
   take-rest (suc i) [] = refl
   take-rest (suc i) (b ∷ s) = ap (λ (r : Bytes). b ∷ r) (take-rest i s)
@@ -116,7 +116,7 @@ module _ (a : Alphabet) where
   finish false = ([], refl)
   finish true = (97 ∷ [], run-end (step a true 97) ∙ begun a)
 
-  joined-run : (p : Bytes) {f : Bool} → run (Some true) p ≡ Some f → (rest : Bytes) → spells a (p ++ rest) ≡ accepts (run (Some f) rest)
+  pub joined-run : (p : Bytes) {f : Bool} → run (Some true) p ≡ Some f → (rest : Bytes) → spells a (p ++ rest) ≡ accepts (run (Some f) rest)
   joined-run p e rest = spells-run (p ++ rest) ∙ ap accepts (run-append (Some true) p rest ∙ ap (λ o. run o rest) e)
 
   dead : (p : Bytes) → run (Some true) p ≡ None → (rest : Bytes) → spells a (p ++ rest) ≡ false
