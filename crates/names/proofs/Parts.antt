@@ -80,7 +80,7 @@ module _ (a : Alphabet) where
         bad = fewer s (b .bad);
         within = b .within;
         begins = more-wanted s at d (b .begins .0) (b .begins .1);
-        ends = λ lt rest. fewer (take (at + 1) s ++ rest) (b .ends lt rest)
+        ends = λ lt rest. fewer (take (at + 1) s ++ rest) (b .ends lt rest);
       }
 
   -- one element wants another
@@ -90,5 +90,5 @@ module _ (a : Alphabet) where
         bad = rw (sym f);
         within = omega arith;
         begins = (46 ∷ 97 ∷ [], rw take-length (spells-more s d e));
-        ends = λ lt rest. absurd (omega arith)
+        ends = λ lt rest. absurd (omega arith);
       }

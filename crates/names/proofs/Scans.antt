@@ -132,7 +132,7 @@ module _ (a : Alphabet) where
         bad = ap (spells a) (sym (take-rest (i + 1) s)) ∙ dead (take (i + 1) s) none (drop (i + 1) s);
         within = omega arith;
         begins = begun-so-far k;
-        ends = λ lt rest. dead (take (i + 1) s) none rest
+        ends = λ lt rest. dead (take (i + 1) s) none rest;
       }
 
   pub whole : {s : Bytes} {f : Bool} {i : ℕ} → Keeps s f i → length s ≤ i → spells a s ≡ not f
@@ -144,5 +144,5 @@ module _ (a : Alphabet) where
         bad = whole k (omega arith) ∙ ap not on;
         within = omega arith;
         begins = rw e at (begun-so-far k);
-        ends = λ lt rest. absurd (omega arith)
+        ends = λ lt rest. absurd (omega arith);
       }
