@@ -1,3 +1,6 @@
+pub mod Bools
 pub mod Scans
 pub mod Parts
 pub mod Leads
+pub mod Spelled
+pub mod Order

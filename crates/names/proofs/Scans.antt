@@ -15,6 +15,7 @@ use Rattle.names.specs.declared.grammar.Alphabet.the-variants.{Path, Name, Mem
 use Rattle.names.specs.Names.{Bytes, all, onto, pieces, element}
 use Rattle.names.specs.Faults.{Breaks, separates, opens, goesOn, spells}
 use Rattle.names.specs.Scan.{step}
+use Rattle.names.proofs.Bools.{and-assoc}
 
 -- every element may begin with the letter a
 pub begun : (a : Alphabet) → step a true 97 ≡ Some false
@@ -50,10 +51,6 @@ module _ (a : Alphabet) where
   left true ps = all (element (opens a) (goesOn a)) ps
   left false [] = true
   left false (e ∷ es) = all (goesOn a) e && all (element (opens a) (goesOn a)) es
-
-  and-assoc : (x y z : Bool) → (x && y) && z ≡ x && (y && z)
-  and-assoc true y z = refl
-  and-assoc false y z = refl
 
   fronted : (f : Bool) (b : ℕ) (ps : List Bytes) → left f (onto b ps) ≡ cond f (opens a b) (goesOn a b) && left false ps
   fronted true b [] = and-assoc (opens a b) true true

@@ -58,6 +58,57 @@ unfoldable pub parentOf : List Bytes → Option Bytes
 parentOf [] = None
 parentOf (x ∷ p) = Some (spelled (allButLast (x ∷ p)))
 
+-- The same by bytes, for any bytes.
+
+-- A path without the slash that stands alone for "/".
+unfoldable pub stem : Bytes → Bytes
+stem p = cond (sameBytes p (47 ∷ [])) [] p
+
+-- What follows p in q, where q begins with p.
+unfoldable pub following : Bytes → Bytes → Option Bytes
+following [] q = Some q
+following (x ∷ p) [] = None
+following (x ∷ p) (y ∷ q) = cond (eqb x y) (following p q) None
+
+-- A slash and at least one byte more.
+unfoldable pub deeper : Option Bytes → Bool
+deeper None = false
+deeper (Some []) = false
+deeper (Some (b ∷ [])) = false
+deeper (Some (b ∷ c ∷ bs)) = eqb b 47
+
+unfoldable pub isBeneath : Bytes → Bytes → Bool
+isBeneath p q = deeper (following (stem p) q)
+
+-- What stands before the last slash, and after it.
+unfoldable pub sooner : ℕ → Option Bytes → Option Bytes
+sooner b None = cond (eqb b 47) (Some []) None
+sooner b (Some p) = Some (b ∷ p)
+
+unfoldable pub beforeLast : Bytes → Option Bytes
+beforeLast [] = None
+beforeLast (b ∷ bs) = sooner b (beforeLast bs)
+
+unfoldable pub later : ℕ → Bytes → Option Bytes → Option Bytes
+later b bs None = cond (eqb b 47) (Some bs) None
+later b bs (Some p) = Some p
+
+unfoldable pub afterLast : Bytes → Option Bytes
+afterLast [] = None
+afterLast (b ∷ bs) = later b bs (afterLast bs)
+
+-- Nothing before a slash is "/".
+unfoldable pub orRoot : Option Bytes → Option Bytes
+orRoot None = None
+orRoot (Some []) = Some (47 ∷ [])
+orRoot (Some (b ∷ bs)) = Some (b ∷ bs)
+
+unfoldable pub parentBytes : Bytes → Option Bytes
+parentBytes p = cond (sameBytes p (47 ∷ [])) None (orRoot (beforeLast p))
+
+unfoldable pub lastBytes : Bytes → Option Bytes
+lastBytes p = cond (sameBytes p (47 ∷ [])) None (afterLast p)
+
 -- A path that the server makes has at most 255 bytes, 16 elements, and 63 bytes in an element.
 unfoldable pub makeable : Bytes → Bool
 makeable bs = leb (length bs) 255 && (leb (length (elementsOf bs)) 16 && all (λ e. leb (length e) 63) (elementsOf bs))
