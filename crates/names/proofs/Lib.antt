@@ -4,3 +4,4 @@ pub mod Parts
 pub mod Leads
 pub mod Spelled
 pub mod Order
+pub mod Walks

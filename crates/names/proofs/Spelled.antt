@@ -125,7 +125,7 @@ beneath-joined (x ∷ p) (y ∷ q) h k =
     ∙ ap (λ t. sameBytes x y && t) (beneath-joined p q (and-r (pathElement x) (all pathElement p) h) (and-r (pathElement y) (all pathElement q) k))
 
 stem-spelled : (p : List Bytes) → all pathElement p ≡ true → stem (spelled p) ≡ joined p
-unfolding stem spelled joined
+unfolding spelled joined
 stem-spelled [] h = refl
 stem-spelled ([] ∷ p) h = absurd (false≢true h)
 stem-spelled ((c ∷ x) ∷ p) h = refl
@@ -137,7 +137,7 @@ under-root ([] ∷ p) h = absurd (false≢true h)
 under-root ((c ∷ x) ∷ p) h = refl
 
 beneath-spelled : (p q : List Bytes) → all pathElement p ≡ true → all pathElement q ≡ true → isBeneath (spelled p) (spelled q) ≡ beneath p q
-unfolding isBeneath spelled
+unfolding spelled
 beneath-spelled p [] h k = ap (λ (u : Bytes). deeper (following u (47 ∷ []))) (stem-spelled p h) ∙ under-root p h
 beneath-spelled p (y ∷ q) h k = ap (λ (u : Bytes). deeper (following u (joined (y ∷ q)))) (stem-spelled p h) ∙ beneath-joined p (y ∷ q) h k
 
@@ -186,7 +186,7 @@ root-joined [] = refl
 root-joined (x ∷ p) = refl
 
 parent-spelled : (p : List Bytes) → all pathElement p ≡ true → parentBytes (spelled p) ≡ parentOf p
-unfolding parentBytes spelled parentOf joined
+unfolding spelled parentOf joined
 parent-spelled [] h = refl
 parent-spelled ([] ∷ p) h = absurd (false≢true h)
 parent-spelled ((c ∷ x) ∷ p) h = ap orRoot (before-joined (c ∷ x) p h) ∙ root-joined (allButLast ((c ∷ x) ∷ p))
@@ -196,7 +196,7 @@ unfolding lastOf
 last-none = refl
 
 last-spelled : (p : List Bytes) → all pathElement p ≡ true → lastBytes (spelled p) ≡ lastOf p
-unfolding lastBytes spelled joined
+unfolding spelled joined
 last-spelled [] h = last-none
 last-spelled ([] ∷ p) h = absurd (false≢true h)
 last-spelled ((c ∷ x) ∷ p) h = let r = last-joined (c ∷ x) p h in r .2 ∙ sym (r .1)

@@ -61,7 +61,7 @@ parentOf (x ∷ p) = Some (spelled (allButLast (x ∷ p)))
 -- The same by bytes, for any bytes.
 
 -- A path without the slash that stands alone for "/".
-unfoldable pub stem : Bytes → Bytes
+abbrev pub stem : Bytes → Bytes
 stem p = cond (sameBytes p (47 ∷ [])) [] p
 
 -- What follows p in q, where q begins with p.
@@ -77,7 +77,7 @@ deeper (Some []) = false
 deeper (Some (b ∷ [])) = false
 deeper (Some (b ∷ c ∷ bs)) = eqb b 47
 
-unfoldable pub isBeneath : Bytes → Bytes → Bool
+abbrev pub isBeneath : Bytes → Bytes → Bool
 isBeneath p q = deeper (following (stem p) q)
 
 -- What stands before the last slash, and after it.
@@ -103,10 +103,10 @@ orRoot None = None
 orRoot (Some []) = Some (47 ∷ [])
 orRoot (Some (b ∷ bs)) = Some (b ∷ bs)
 
-unfoldable pub parentBytes : Bytes → Option Bytes
+abbrev pub parentBytes : Bytes → Option Bytes
 parentBytes p = cond (sameBytes p (47 ∷ [])) None (orRoot (beforeLast p))
 
-unfoldable pub lastBytes : Bytes → Option Bytes
+abbrev pub lastBytes : Bytes → Option Bytes
 lastBytes p = cond (sameBytes p (47 ∷ [])) None (afterLast p)
 
 -- A path that the server makes has at most 255 bytes, 16 elements, and 63 bytes in an element.
