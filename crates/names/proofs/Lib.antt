@@ -5,3 +5,4 @@ pub mod Leads
 pub mod Spelled
 pub mod Order
 pub mod Walks
+pub mod Slashes

@@ -17,6 +17,11 @@ use Rattle.names.specs.Faults.{Breaks, separates, opens, goesOn, spells}
 use Rattle.names.specs.Scan.{step}
 use Rattle.names.proofs.Bools.{and-assoc}
 
+pub take-rest : (i : ℕ) (s : Bytes) → take i s ++ drop i s ≡ s
+take-rest zero s = refl
+take-rest (suc i) [] = refl
+take-rest (suc i) (b ∷ s) = ap (λ (r : Bytes). b ∷ r) (take-rest i s)
+
 -- every element may begin with the letter a
 pub begun : (a : Alphabet) → step a true 97 ≡ Some false
 begun Path = refl
@@ -85,11 +90,6 @@ module _ (a : Alphabet) where
   pub run-end : (o : Option Bool) → run o [] ≡ o
   run-end None = refl
   run-end (Some f) = refl
-
-  pub take-rest : (i : ℕ) (s : Bytes) → take i s ++ drop i s ≡ s
-  take-rest zero s = refl
-  take-rest (suc i) [] = refl
-  take-rest (suc i) (b ∷ s) = ap (λ (r : Bytes). b ∷ r) (take-rest i s)
 
   -- what the loop keeps
   pub record Keeps (s : Bytes) (f : Bool) (i : ℕ) : Type 0 where

@@ -157,12 +157,12 @@ unfolding afterLast later
 no-slash-after [] h = refl
 no-slash-after (c ∷ x) h = rw (no-slash-after x (and-r (word c) (all word x) h), word-not-slash c (and-l (word c) (all word x) h))
 
-before-further : (x s t : Bytes) → beforeLast s ≡ Some t → beforeLast (x ++ s) ≡ Some (x ++ t)
+pub before-further : (x s t : Bytes) → beforeLast s ≡ Some t → beforeLast (x ++ s) ≡ Some (x ++ t)
 unfolding beforeLast sooner
 before-further [] s t h = h
 before-further (c ∷ x) s t h = rw (before-further x s t h)
 
-after-further : (x s t : Bytes) → afterLast s ≡ Some t → afterLast (x ++ s) ≡ Some t
+pub after-further : (x s t : Bytes) → afterLast s ≡ Some t → afterLast (x ++ s) ≡ Some t
 unfolding afterLast later
 after-further [] s t h = h
 after-further (c ∷ x) s t h = rw (after-further x s t h)

@@ -2,10 +2,10 @@
 use mathlib.Core.Path.{_≡_}
 use mathlib.Core.Bool.{Bool, true, false, cond, _&&_, _||_}
 use mathlib.Core.List.{List, [], _∷_, _++_}
-use Prim.Native.Nat.{ℕ}
+use Prim.Native.Nat.{ℕ, _+_, _<_}
 use lib.Chars.{codes}
 use lib.Dec.{eqb, leb, ltb}
-use lib.ListN.{length}
+use lib.ListN.{length, take, drop}
 use Rattle.std.specs.shelf.Text.{sameBytes}
 use Rattle.std.specs.declared.option.Option.{Option}
 use Rattle.std.specs.declared.option.Option.the-variants.{Some, None}
@@ -96,6 +96,15 @@ later b bs (Some p) = Some p
 unfoldable pub afterLast : Bytes → Option Bytes
 afterLast [] = None
 afterLast (b ∷ bs) = later b bs (afterLast bs)
+
+pub record NoSlash (bs : Bytes) : Type 0 where
+  pub ahead : beforeLast bs ≡ None
+  pub behind : afterLast bs ≡ None
+
+pub record LastSlash (bs : Bytes) (at : ℕ) : Type 0 where
+  pub within : at < length bs
+  pub ahead : beforeLast bs ≡ Some (take at bs)
+  pub behind : afterLast bs ≡ Some (drop (at + 1) bs)
 
 -- Nothing before a slash is "/".
 unfoldable pub orRoot : Option Bytes → Option Bytes

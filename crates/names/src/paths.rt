@@ -1,9 +1,9 @@
 ghost use mathlib.Core.Path.{_≡_};
 ghost use mathlib.Core.Bool.{true};
-ghost use Rattle.std.specs.Options.{mapped};
+ghost use Rattle.std.specs.Options.{Cases as BySome, mapped};
 ghost use Rattle.std.specs.declared.option.Option.the-variants.{Some};
 ghost use Rattle.names.specs.Names.{elementsOf, validPath};
-ghost use Rattle.names.specs.Paths.{beneath, bytesBefore, pathBefore, parentOf, lastOf, stem, following, deeper, isBeneath, parentBytes, lastBytes, makeable, PreOrder};
+ghost use Rattle.names.specs.Paths.{beneath, bytesBefore, pathBefore, parentOf, lastOf, stem, following, deeper, isBeneath, parentBytes, lastBytes, makeable, PreOrder, NoSlash, LastSlash};
 use super::same;
 
 // A path without the slash that stands alone for "/".
@@ -61,4 +61,44 @@ pub fn path_before(a: &[u8], b: &[u8]) -> bool
     ensures order { λ _. ⌜ PreOrder ⌝ }
 {
     bytes_before(a, b)
+}
+
+// The place of the last slash.
+fn last_slash(path: &[u8]) -> Option<usize>
+    ensures { λ r. ⌜ BySome r (NoSlash (now (path .entry))) (λ at. LastSlash (now (path .entry)) at) ⌝ }
+{
+    for i in (0..path.len()).rev() {
+        if path[i] == b'/' {
+            return Some(i);
+        }
+    }
+    None
+}
+
+// The path of all elements but the last; "/" has none.
+pub fn parent(path: &[u8]) -> Option<&[u8]>
+    ensures bytes { λ r. ⌜ mapped now r ≡ parentBytes (now (path .entry)) ⌝ }
+    ensures elements { λ r. ⌜ (validPath (now (path .entry)) ≡ true → mapped now r ≡ parentOf (elementsOf (now (path .entry)))) ⌝ }
+{
+    if same(path, b"/") {
+        return None;
+    }
+    let Some(at) = last_slash(path) else {
+        return None;
+    };
+    if at == 0 { Some(b"/") } else { Some(&path[0..at]) }
+}
+
+// The last element; "/" has none.
+pub fn last_element(path: &[u8]) -> Option<&[u8]>
+    ensures bytes { λ r. ⌜ mapped now r ≡ lastBytes (now (path .entry)) ⌝ }
+    ensures elements { λ r. ⌜ (validPath (now (path .entry)) ≡ true → mapped now r ≡ lastOf (elementsOf (now (path .entry)))) ⌝ }
+{
+    if same(path, b"/") {
+        return None;
+    }
+    let Some(at) = last_slash(path) else {
+        return None;
+    };
+    Some(&path[at + 1..])
 }
