@@ -6,3 +6,4 @@ pub mod Spelled
 pub mod Order
 pub mod Walks
 pub mod Slashes
+pub mod Limits

@@ -41,7 +41,7 @@ last-found s i h e n =
     record {
       within = h;
       ahead = ap beforeLast (sym split) ∙ before-further (take i s) (getD s i 0 ∷ drop (suc i) s) [] (here .0) ∙ ap Some (append-nil (take i s));
-      behind = ap afterLast (sym split) ∙ after-further (take i s) (getD s i 0 ∷ drop (suc i) s) (drop (suc i) s) (here .1) ∙ ap (λ n. Some (drop n s)) (sym (add-one i))
+      behind = ap afterLast (sym split) ∙ after-further (take i s) (getD s i 0 ∷ drop (suc i) s) (drop (suc i) s) (here .1) ∙ ap (λ n. Some (drop n s)) (sym (add-one i));
     }
 
 -- the parent and the last element, by the last slash; `r` is what is told

@@ -35,7 +35,7 @@ unfolding bytesBefore
 turned a b i h k = rw (add-one, drop-cons a i 0, drop-cons b i 0)
 
 pub level-more : {a b : Bytes} {i : ℕ} → Level a b i → i < length a → i < length b → getD a i 0 ≡ getD b i 0 → Level a b (i + 1)
-level-more {a} {b} {i} l h k e = 
+level-more {a} {b} {i} l h k e =
     let same : eqb (getD a i 0) (getD b i 0) ≡ true = eq-eqb _ _ e in
     let not-less : ltb (getD a i 0) (getD b i 0) ≡ false = lt-leb (suc (getD a i 0)) (getD b i 0) (omega arith) in
     record { so = l .so ∙ turned a b i h k ∙ rw (not-less, same) }

@@ -118,9 +118,13 @@ parentBytes p = cond (sameBytes p (47 ∷ [])) None (orRoot (beforeLast p))
 abbrev pub lastBytes : Bytes → Option Bytes
 lastBytes p = cond (sameBytes p (47 ∷ [])) None (afterLast p)
 
--- A path that the server makes has at most 255 bytes, 16 elements, and 63 bytes in an element.
+-- At most 16 elements, of at most 63 bytes each.
+abbrev pub fewAndShort : List Bytes → Bool
+fewAndShort es = leb (length es) 16 && all (λ e. leb (length e) 63) es
+
+-- A path that the server makes has at most 255 bytes besides.
 unfoldable pub makeable : Bytes → Bool
-makeable bs = leb (length bs) 255 && (leb (length (elementsOf bs)) 16 && all (λ e. leb (length e) 63) (elementsOf bs))
+makeable bs = leb (length bs) 255 && fewAndShort (elementsOf bs)
 
 -- The order of whole paths by their bytes goes through the tree parent first:
 -- a path comes before all that is beneath it, and all that is beneath it comes before whatever else follows it.

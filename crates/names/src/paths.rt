@@ -2,8 +2,8 @@ ghost use mathlib.Core.Path.{_≡_};
 ghost use mathlib.Core.Bool.{true};
 ghost use Rattle.std.specs.Options.{Cases as BySome, mapped};
 ghost use Rattle.std.specs.declared.option.Option.the-variants.{Some};
-ghost use Rattle.names.specs.Names.{elementsOf, validPath};
-ghost use Rattle.names.specs.Paths.{beneath, bytesBefore, pathBefore, parentOf, lastOf, stem, following, deeper, isBeneath, parentBytes, lastBytes, makeable, PreOrder, NoSlash, LastSlash};
+ghost use Rattle.names.specs.Names.{elementsOf, validPath, pieces, slash};
+ghost use Rattle.names.specs.Paths.{beneath, bytesBefore, pathBefore, parentOf, lastOf, stem, following, deeper, isBeneath, parentBytes, lastBytes, fewAndShort, makeable, PreOrder, NoSlash, LastSlash};
 use super::same;
 
 // A path without the slash that stands alone for "/".
@@ -86,7 +86,11 @@ pub fn parent(path: &[u8]) -> Option<&[u8]>
     let Some(at) = last_slash(path) else {
         return None;
     };
-    if at == 0 { Some(b"/") } else { Some(&path[0..at]) }
+    if at == 0 {
+        Some(b"/")
+    } else {
+        Some(&path[0..at])
+    }
 }
 
 // The last element; "/" has none.
@@ -101,4 +105,37 @@ pub fn last_element(path: &[u8]) -> Option<&[u8]>
         return None;
     };
     Some(&path[at + 1..])
+}
+
+// Whether the elements between slashes are few and short enough.
+fn elements_fit(s: &[u8]) -> bool
+    ensures { λ r. ⌜ r ≡ fewAndShort (pieces slash (now (s .entry))) ⌝ }
+{
+    let mut count: usize = 1;
+    let mut len: usize = 0;
+    for b in s {
+        if *b == b'/' {
+            if count >= 16 {
+                return false;
+            }
+            count += 1;
+            len = 0;
+        } else {
+            if len >= 63 {
+                return false;
+            }
+            len += 1;
+        }
+    }
+    true
+}
+
+// Whether the server may make a node at this path.
+pub fn is_makeable(path: &[u8]) -> bool
+    ensures { λ r. ⌜ r ≡ makeable (now (path .entry)) ⌝ }
+{
+    if path.len() > 255 {
+        return false;
+    }
+    path.len() <= 1 || elements_fit(&path[1..])
 }

@@ -17,5 +17,5 @@ pub returns : need.returns
 returns c =
     let whole = between-to-end (c .args .path .now) (c .in-Some .at + 1) (length (c .args .path .now)) (omega arith) in
     let t : LastTold (c .args .path .now) (Some (take (length (c .args .path .now) - (c .in-Some .at + 1)) (drop (c .in-Some .at + 1) (c .args .path .now)))) =
-      rw whole (last-some (c .args .path .now) (c .in-Some .at) (c .if-same .ensures tt) (c .in-Some .ensures tt)) in
+    rw whole (last-some (c .args .path .now) (c .in-Some .at) (c .if-same .ensures tt) (c .in-Some .ensures tt)) in
     record { bytes = t .bytes; elements = t .elements }

@@ -21,5 +21,5 @@ returns-then-at-eq0 c =
 pub returns-else-at-eq0 : need.returns-else-at-eq0
 returns-else-at-eq0 c =
     let t : ParentTold (c .args .path .now) (Some (take (c .in-Some .at - 0) (c .args .path .now))) =
-      rw sub-zero (parent-some (c .args .path .now) (c .in-Some .at) (c .if-same .ensures tt) (c .in-Some .ensures tt) (c .if-at-eq0 .left)) in
+    rw sub-zero (parent-some (c .args .path .now) (c .in-Some .at) (c .if-same .ensures tt) (c .in-Some .ensures tt) (c .if-at-eq0 .left)) in
     record { bytes = t .bytes; elements = t .elements }

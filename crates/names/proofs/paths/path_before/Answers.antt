@@ -7,5 +7,5 @@ returns c =
     record {
       bytes = c .bytes-before .ensures;
       elements = λ h k. c .bytes-before .ensures ∙ order-elements (c .args .a .now) (c .args .b .now) h k;
-      order = pre-order
+      order = pre-order;
     }
