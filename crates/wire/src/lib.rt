@@ -1,0 +1,4 @@
+// Type codes, signatures, and reading values from a message in either byte order.
+pub mod codes;
+pub mod levels;
+pub mod signatures;
