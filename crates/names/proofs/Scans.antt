@@ -85,11 +85,11 @@ module _ (a : Alphabet) where
   pub spells-run : (bs : Bytes) → spells a bs ≡ accepts (run (Some true) bs)
   spells-run bs = sym (agree true bs)
 
-  run-end : (o : Option Bool) → run o [] ≡ o
+  pub run-end : (o : Option Bool) → run o [] ≡ o
   run-end None = refl
   run-end (Some f) = refl
 
-  take-rest : (i : ℕ) (s : Bytes) → take i s ++ drop i s ≡ s
+  pub take-rest : (i : ℕ) (s : Bytes) → take i s ++ drop i s ≡ s
   take-rest zero s = refl
   take-rest (suc i) [] = refl
   take-rest (suc i) (b ∷ s) = ap (λ (r : Bytes). b ∷ r) (take-rest i s)
@@ -116,7 +116,7 @@ module _ (a : Alphabet) where
   finish false = ([], refl)
   finish true = (97 ∷ [], run-end (step a true 97) ∙ begun a)
 
-  joined-run : (p : Bytes) {f : Bool} → run (Some true) p ≡ Some f → (rest : Bytes) → spells a (p ++ rest) ≡ accepts (run (Some f) rest)
+  pub joined-run : (p : Bytes) {f : Bool} → run (Some true) p ≡ Some f → (rest : Bytes) → spells a (p ++ rest) ≡ accepts (run (Some f) rest)
   joined-run p e rest = spells-run (p ++ rest) ∙ ap accepts (run-append (Some true) p rest ∙ ap (λ o. run o rest) e)
 
   dead : (p : Bytes) → run (Some true) p ≡ None → (rest : Bytes) → spells a (p ++ rest) ≡ false
@@ -132,7 +132,7 @@ module _ (a : Alphabet) where
         bad = ap (spells a) (sym (take-rest (i + 1) s)) ∙ dead (take (i + 1) s) none (drop (i + 1) s);
         within = omega arith;
         begins = begun-so-far k;
-        ends = λ lt rest. dead (take (i + 1) s) none rest
+        ends = λ lt rest. dead (take (i + 1) s) none rest;
       }
 
   pub whole : {s : Bytes} {f : Bool} {i : ℕ} → Keeps s f i → length s ≤ i → spells a s ≡ not f
@@ -144,5 +144,5 @@ module _ (a : Alphabet) where
         bad = whole k (omega arith) ∙ ap not on;
         within = omega arith;
         begins = rw e at (begun-so-far k);
-        ends = λ lt rest. absurd (omega arith)
+        ends = λ lt rest. absurd (omega arith);
       }

@@ -1,9 +1,13 @@
 ghost use mathlib.Core.Path.{_≡_};
 ghost use mathlib.Core.Bool.{Bool, true, false, cond};
-ghost use Rattle.std.specs.Options.{Cases as BySome};
-ghost use Rattle.names.specs.Names.{letter, digit, word, hyphen};
-ghost use Rattle.names.specs.Scan.{step};
-ghost use Rattle.names.specs.Faults.{Breaks, separates, opens, goesOn, spells};
+ghost use Rattle.std.specs.Results.{isOk};
+ghost use Rattle.std.specs.Vec.{refused};
+ghost use Rattle.std.specs.Options.{Cases as BySome, mapped};
+ghost use lib.Dec.{leb};
+ghost use lib.ListN.{length};
+ghost use Rattle.names.specs.Names.{letter, digit, word, hyphen, pieces, valid};
+ghost use Rattle.names.specs.Scan.{step, led};
+ghost use Rattle.names.specs.Faults.{Breaks, separates, opens, goesOn, spells, several, good, fits, reasonAt, Refusal};
 
 // What the elements of a kind of name are made of, and what separates them.
 #[derive(Clone, Copy)]
@@ -22,6 +26,8 @@ pub enum Reason {
     TooLong,
     // more must follow
     Unfinished,
+    // another byte must stand here
+    Expected(u8),
     // a separator where an element must begin
     EmptyElement,
     // a digit where an element must begin with another byte
@@ -94,7 +100,11 @@ impl Alphabet {
     {
         if self.separates(b) {
             if fresh { None } else { Some(true) }
-        } else if if fresh { self.opens(b) } else { self.goes_on(b) } {
+        } else if if fresh {
+            self.opens(b)
+        } else {
+            self.goes_on(b)
+        } {
             Some(false)
         } else {
             None
@@ -113,5 +123,135 @@ impl Alphabet {
             fresh = next;
         }
         if fresh { Some(s.len()) } else { None }
+    }
+
+    // Whether there are several elements.
+    fn parts(self, s: &[u8]) -> bool
+        ensures { λ r. ⌜ r ≡ leb 2 (length (pieces (separates self) (now (s .entry)))) ⌝ }
+    {
+        for b in s {
+            if self.separates(*b) {
+                return true;
+            }
+        }
+        false
+    }
+
+    // As `fault`, where dots separate and one element is too few.
+    fn several_fault(self, s: &[u8]) -> Option<usize>
+        requires { ⌜ separates self 46 ≡ true ⌝ }
+        ensures { λ r. ⌜ BySome r (several self (now (s .entry)) ≡ true) (λ at. Breaks (several self) (now (s .entry)) at) ⌝ }
+    {
+        match self.fault(s) {
+            Some(at) => Some(at),
+            None => { if self.parts(s) { None } else { Some(s.len()) } }
+        }
+    }
+
+    // The place of the first byte that makes this no name of its kind, whatever its length.
+    fn flaw(self, s: &[u8]) -> Option<usize>
+        ensures { λ r. ⌜ BySome r (good self (now (s .entry)) ≡ true) (λ at. Breaks (good self) (now (s .entry)) at) ⌝ }
+    {
+        match self {
+            Alphabet::Path => path_flaw(s),
+            Alphabet::Unique => unique_flaw(s),
+            Alphabet::Member => self.fault(s),
+            Alphabet::Name | Alphabet::WellKnown => self.several_fault(s),
+        }
+    }
+
+    // What a fault at this place is called.
+    fn reason(self, s: &[u8], place: usize) -> Reason
+        ensures { λ r. ⌜ r ≡ reasonAt self (now (s .entry)) place ⌝ }
+    {
+        if place == 0 {
+            match self {
+                Alphabet::Path => return Reason::Expected(b'/'),
+                Alphabet::Unique => return Reason::Expected(b':'),
+                _ => {}
+            }
+        }
+        if place >= s.len() {
+            return Reason::Unfinished;
+        }
+        let b = s[place];
+        if self.separates(b) {
+            Reason::EmptyElement
+        } else if is_digit(b) {
+            Reason::LeadingDigit
+        } else {
+            Reason::Forbidden(b)
+        }
+    }
+}
+
+impl Alphabet {
+    // Whether there are not too many bytes.
+    fn fits(self, s: &[u8]) -> bool
+        ensures { λ r. ⌜ r ≡ fits self (now (s .entry)) ⌝ }
+    {
+        match self {
+            Alphabet::Path => true,
+            _ => s.len() <= 255,
+        }
+    }
+
+    // Refuses what is no name of its kind, with the place and the reason.
+    pub fn check(self, s: &[u8]) -> Result<(), Invalid>
+        ensures answer { λ r. ⌜ isOk r ≡ valid self (now (s .entry)) ⌝ }
+        ensures fault { λ r. ⌜ refused r (λ e. Refusal self (now (s .entry)) e) ⌝ }
+    {
+        if !self.fits(s) {
+            return Err(Invalid {
+                place: 255,
+                why: Reason::TooLong,
+            });
+        }
+        match self.flaw(s) {
+            None => Ok(()),
+            Some(place) => Err(Invalid {
+                place,
+                why: self.reason(s, place),
+            }),
+        }
+    }
+}
+
+// What follows the first byte, if that is `b`.
+fn after(s: &[u8], b: u8) -> Option<&[u8]>
+    ensures { λ r. ⌜ mapped now r ≡ led b (now (s .entry)) ⌝ }
+{
+    let [first, rest @ ..] = s else {
+        return None;
+    };
+    if *first == b { Some(rest) } else { None }
+}
+
+// A slash, and elements between slashes.
+fn path_flaw(s: &[u8]) -> Option<usize>
+    ensures { λ r. ⌜ BySome r (good Alphabet.Path (now (s .entry)) ≡ true) (λ at. Breaks (good Alphabet.Path) (now (s .entry)) at) ⌝ }
+{
+    let Some(rest) = after(s, b'/') else {
+        return Some(0);
+    };
+    if rest.is_empty() {
+        return None;
+    }
+    match Alphabet::Path.fault(rest) {
+        Some(at) => Some(at + 1),
+        None => None,
+    }
+}
+
+// A colon, and elements between dots.
+fn unique_flaw(s: &[u8]) -> Option<usize>
+    ensures { λ r. ⌜ BySome r (good Alphabet.Unique (now (s .entry)) ≡ true) (λ at. Breaks (good Alphabet.Unique) (now (s .entry)) at) ⌝ }
+{
+    let Some(rest) = after(s, b':') else {
+        return Some(0);
+    };
+    match Alphabet::Unique.several_fault(rest) {
+        Some(at) => Some(at + 1),
+        None => None,
     }
 }

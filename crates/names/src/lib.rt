@@ -3,6 +3,7 @@ ghost use Rattle.std.specs.shelf.Text.{sameBytes};
 
 pub mod grammar;
 pub mod standard;
+pub mod types;
 
 // Whether two texts are the same.
 pub fn same(a: &[u8], b: &[u8]) -> bool
