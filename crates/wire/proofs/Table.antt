@@ -2,10 +2,10 @@
 use mathlib.Core.Path.{_≡_, refl}
 use mathlib.Core.Bool.{cond}
 use mathlib.Core.List.{List, map}
-use Prim.Native.Nat.{ℕ, _+_, _<_}
+use Prim.Native.Nat.{ℕ, _+_, _<_, _≤_}
 use native.Mathlib.Numerals.{add-one}
 use denote.Enum.Declared.{tagOf}
-use lib.Dec.{eqb}
+use lib.Dec.{eqb, lit<, lit≤}
 use lib.ListN.{length, getD, drop}
 use lib.Seq.{drop-cons}
 use Rattle.std.specs.declared.option.Option.the-variants.{Some}
@@ -46,3 +46,23 @@ at-code Array = refl
 at-code Structure = refl
 at-code DictEntry = refl
 at-code Variant = refl
+
+pub align-small : (c : Code) → (0 < alignOf c) × (alignOf c ≤ 8)
+unfolding alignOf
+align-small Byte = (lit< tt, lit≤ tt)
+align-small Boolean = (lit< tt, lit≤ tt)
+align-small Int16 = (lit< tt, lit≤ tt)
+align-small Uint16 = (lit< tt, lit≤ tt)
+align-small Int32 = (lit< tt, lit≤ tt)
+align-small Uint32 = (lit< tt, lit≤ tt)
+align-small Int64 = (lit< tt, lit≤ tt)
+align-small Uint64 = (lit< tt, lit≤ tt)
+align-small Double = (lit< tt, lit≤ tt)
+align-small UnixFd = (lit< tt, lit≤ tt)
+align-small String = (lit< tt, lit≤ tt)
+align-small ObjectPath = (lit< tt, lit≤ tt)
+align-small Signature = (lit< tt, lit≤ tt)
+align-small Array = (lit< tt, lit≤ tt)
+align-small Structure = (lit< tt, lit≤ tt)
+align-small DictEntry = (lit< tt, lit≤ tt)
+align-small Variant = (lit< tt, lit≤ tt)

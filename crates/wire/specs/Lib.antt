@@ -2,3 +2,5 @@ pub mod Codes
 pub mod Depth
 pub mod Repeat
 pub mod Signatures
+pub mod Text
+pub mod Reading

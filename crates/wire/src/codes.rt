@@ -1,6 +1,7 @@
 // The seventeen type codes, each with its letter and the alignment of its values: one table for readers and writers.
 ghost use mathlib.Core.Path.{_≡_};
-ghost use Rattle.wire.specs.Codes.{alignOf, basic, codeOf, rowOf, lookup};
+ghost use Prim.Native.Nat.{_<_, _≤_};
+ghost use Rattle.wire.specs.Codes.{alignOf, basic, codeOf, lookup};
 
 #[derive(Clone, Copy, Debug, PartialEq, Eq)]
 pub enum Code {
@@ -74,7 +75,8 @@ impl Code {
 
     // The boundary on which a value of this code begins.
     pub fn alignment(self) -> usize
-        ensures { λ r. ⌜ r ≡ alignOf self ⌝ }
+        ensures value { λ r. ⌜ r ≡ alignOf self ⌝ }
+        ensures small { λ r. ⌜ 0 < r ⌝ ∗ ⌜ r ≤ 8 ⌝ }
     {
         CODES[self as usize].alignment
     }

@@ -1,7 +1,13 @@
+use mathlib.Core.Path.{subst, sym}
+use Prim.Native.Nat.{_<_, _≤_}
 use Rattle.wire.specs.Codes.{alignOf}
-use Rattle.wire.proofs.Table.{at-code}
+use Rattle.wire.proofs.Table.{align-small, at-code}
 use Rattle.wire.proofs.codes.Code.alignment.Needs as need
 
 pub returns : need.returns
 unfolding alignOf
-returns c = at-code (c .args .self)
+returns c =
+    record {
+      value = at-code (c .args .self);
+      small = subst (λ n. (0 < n) × (n ≤ 8)) (sym (at-code (c .args .self))) (align-small (c .args .self));
+    }
