@@ -10,17 +10,17 @@ use Rattle.std.specs.declared.option.Option.{Option}
 use Rattle.std.specs.declared.option.Option.the-variants.{Some, None}
 use Rattle.std.specs.declared.result.Result.{Result}
 use Rattle.std.specs.declared.result.Result.the-variants.{Ok, Err}
-use Rattle.wire.specs.declared.codes.Code.{Code}
-use Rattle.wire.specs.declared.codes.Code.the-variants.{Byte, Boolean, Int16, Uint16, Int32, Uint32, Int64, Uint64, Double, UnixFd, String, ObjectPath, Signature, Array, Structure, DictEntry, Variant}
-use Rattle.wire.specs.declared.levels.Levels.{Levels}
+use Rattle.signature.specs.declared.codes.Code.{Code}
+use Rattle.signature.specs.declared.codes.Code.the-variants.{Byte, Boolean, Int16, Uint16, Int32, Uint32, Int64, Uint64, Double, UnixFd, String, ObjectPath, Signature, Array, Structure, DictEntry, Variant}
+use Rattle.signature.specs.declared.levels.Levels.{Levels}
 use Rattle.wire.specs.declared.reading.ByteOrder.{ByteOrder}
 use Rattle.wire.specs.declared.reading.Fault.{Fault}
-use Rattle.wire.specs.Codes.{codeOf}
-use Rattle.wire.specs.Depth.{inArray, inStructure, inVariant}
+use Rattle.signature.specs.Codes.{codeOf}
+use Rattle.signature.specs.Depth.{inArray, inStructure, inVariant}
 use Rattle.wire.specs.Reading.{Grown}
-use Rattle.wire.specs.Repeat.{bind, go, halt, onward}
-use Rattle.wire.specs.Signatures.{Inside}
-use Rattle.wire.proofs.Types.{array-all, array-none, descend, nowhere, structure-all, structure-none, stuck, through, variant-all, variant-none}
+use Rattle.signature.specs.Repeat.{bind, go, halt, onward}
+use Rattle.signature.specs.Signatures.{Inside}
+use Rattle.signature.proofs.Types.{array-all, array-none, descend, nowhere, structure-all, structure-none, stuck, through, variant-all, variant-none}
 use Rattle.skip.specs.Values.{Ahead, Skip, arrayEnd, basicEnd, fieldTurn, fieldsEnd, fixedEnd, itemTurn, plainly, valueBy, valueEnd, valueEndBy, valueStep, variantEnd}
 
 -- a code that asks nothing of its bytes

@@ -10,17 +10,17 @@ use Rattle.std.specs.declared.option.Option.{Option}
 use Rattle.std.specs.declared.option.Option.the-variants.{Some, None}
 use Rattle.std.specs.declared.result.Result.{Result}
 use Rattle.std.specs.declared.result.Result.the-variants.{Ok, Err}
-use Rattle.wire.specs.declared.codes.Code.{Code}
-use Rattle.wire.specs.declared.codes.Code.the-variants.{Byte, Boolean, Int16, Uint16, Int32, Uint32, Int64, Uint64, Double, UnixFd, String, ObjectPath, Signature, Array, Structure, DictEntry, Variant}
-use Rattle.wire.specs.declared.levels.Levels.{Levels}
+use Rattle.signature.specs.declared.codes.Code.{Code}
+use Rattle.signature.specs.declared.codes.Code.the-variants.{Byte, Boolean, Int16, Uint16, Int32, Uint32, Int64, Uint64, Double, UnixFd, String, ObjectPath, Signature, Array, Structure, DictEntry, Variant}
+use Rattle.signature.specs.declared.levels.Levels.{Levels}
 use Rattle.wire.specs.declared.reading.ByteOrder.{ByteOrder}
 use Rattle.wire.specs.declared.reading.Fault.{Fault}
 use Rattle.wire.specs.declared.reading.Fault.the-variants as fault
-use Rattle.wire.specs.Codes.{alignOf, codeOf}
-use Rattle.wire.specs.Depth.{full, inArray, inStructure, inVariant}
+use Rattle.signature.specs.Codes.{alignOf, codeOf}
+use Rattle.signature.specs.Depth.{full, inArray, inStructure, inVariant}
 use Rattle.wire.specs.Reading.{alignAt, boolAt, fixedAt, pathAt, signatureAt, stringAt, u32At}
-use Rattle.wire.specs.Repeat.{Turn, go, halt, bind, onward, repeat}
-use Rattle.wire.specs.Signatures.{single, typeEnd}
+use Rattle.signature.specs.Repeat.{Turn, go, halt, bind, onward, repeat}
+use Rattle.signature.specs.Signatures.{single, typeEnd}
 
 -- the place after what was read
 abbrev pub endOf : {A : Type 0} → Result (A × ℕ) Fault → Option ℕ
@@ -62,7 +62,7 @@ arraySpan order msg element at =
     bind (okPart (u32At order msg at)) λ n.
     cond (leb (n .0) 67108864)
     (bind (okPart (alignAt (alignOf element) msg (n .1))) λ first.
-     cond (leb (first + n .0) (length msg)) (Some (first, first + n .0)) None)
+    cond (leb (first + n .0) (length msg)) (Some (first, first + n .0)) None)
     None
 
 -- both ends lie past the starts, and not past the signature and the message

@@ -3,11 +3,14 @@ ghost use mathlib.Core.Path.{_≡_};
 ghost use Prim.Native.Nat.{ℕ, _+_, _<_, _≤_};
 ghost use lib.ListN.{length};
 ghost use Rattle.wire.specs.Reading.{Grown};
-ghost use Rattle.wire.specs.Signatures.{Inside};
+ghost use Rattle.signature.specs.Signatures.{Inside};
 ghost use Rattle.std.specs.Options.{Cases};
 ghost use Rattle.skip.specs.Values.{Ahead, Span, arrayEnd, arraySpan, basicEnd, fieldsEnd, itemsEnd, plainly, valueAt, valueEnd, variantEnd};
-use wire::codes::Code;
-use wire::levels::Levels;
+use signature::codes::Code;
+use signature::is_single;
+use signature::letter_at;
+use signature::levels::Levels;
+use signature::type_end;
 use wire::reading::ByteOrder;
 use wire::reading::Fault;
 use wire::reading::align;
@@ -17,9 +20,6 @@ use wire::reading::read_path;
 use wire::reading::read_signature;
 use wire::reading::read_string;
 use wire::reading::read_u32;
-use wire::signatures::is_single;
-use wire::signatures::letter_at;
-use wire::signatures::type_end;
 
 // An array has at most 2^26 bytes.
 const MAX_ARRAY: u32 = 67108864;
@@ -102,10 +102,26 @@ fn skip_value(
     match code {
         Code::Array => skip_array(message, order, signature, at + 1, pos, levels.in_array()?),
         Code::Structure => {
-            skip_fields(message, order, signature, at + 1, pos, b')', levels.in_structure()?)
+            skip_fields(
+                message,
+                order,
+                signature,
+                at + 1,
+                pos,
+                b')',
+                levels.in_structure()?,
+            )
         }
         Code::DictEntry => {
-            skip_fields(message, order, signature, at + 1, pos, b'}', levels.in_structure()?)
+            skip_fields(
+                message,
+                order,
+                signature,
+                at + 1,
+                pos,
+                b'}',
+                levels.in_structure()?,
+            )
         }
         Code::Variant => past(at, skip_variant(message, order, pos, levels.in_variant()?)),
         _ => past(at, basic_end(message, order, code, pos)),

@@ -1,5 +1,2 @@
-pub mod Runs
-pub mod Table
-pub mod Types
 pub mod Bytes
 pub mod Read

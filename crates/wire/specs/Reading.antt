@@ -16,7 +16,7 @@ use Rattle.wire.specs.declared.reading.Fault.{Fault}
 use Rattle.wire.specs.declared.reading.Fault.the-variants.{Short, Padding, Boolean, Unterminated, Text, Path, Signature}
 use Rattle.wire.specs.declared.reading.StringLike.{StringLike}
 use Rattle.wire.specs.declared.reading.StringLike.the-variants.{OfString, OfPath, OfSignature}
-use Rattle.wire.specs.Signatures.{validSignature}
+use Rattle.signature.specs.Signatures.{validSignature}
 use Rattle.wire.specs.Text.{validText, zero?}
 
 abbrev pub andThen : {A B : Type 0} → Result A Fault → (A → Result B Fault) → Result B Fault

@@ -3,9 +3,9 @@ use mathlib.Core.Path.{refl, sym, ap, _∙_}
 use Prim.Native.Nat.{_+_, _-_}
 use lib.ListN.{length}
 use Rattle.std.specs.declared.option.Option.the-variants.{Some}
-use Rattle.wire.specs.declared.codes.Code.the-variants.{Array, Structure, DictEntry, Variant}
-use Rattle.wire.proofs.Runs.{begun, next, halts}
-use Rattle.wire.proofs.Types.{letter-inside, none-past, stuck, through}
+use Rattle.signature.specs.declared.codes.Code.the-variants.{Array, Structure, DictEntry, Variant}
+use Rattle.signature.proofs.Runs.{begun, next, halts}
+use Rattle.signature.proofs.Types.{letter-inside, none-past, stuck, through}
 use Rattle.skip.specs.Values.{plainly, valueEnd}
 use Rattle.skip.proofs.Walk.{basic-alone, bracketPart, by-code, field-close, field-on, item-on, no-code, one-on, plain-ahead, read, variantPart}
 use Rattle.skip.proofs.+skip_array+skip_fields+skip_items+skip_value+skip_variant.Needs as need

@@ -1,6 +1,6 @@
 use Prim.Native.Nat.{_+_, _-_, _*_, _≤_, _<_}
 use lib.ListN.{length}
-use Rattle.wire.proofs.Runs.{Runs}
+use Rattle.signature.proofs.Runs.{Runs}
 use Rattle.skip.specs.Values.{fieldTurn, itemTurn, valueEnd}
 use Rattle.skip.proofs.+skip_array+skip_fields+skip_items+skip_value+skip_variant.Given as given
 

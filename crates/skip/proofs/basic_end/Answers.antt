@@ -1,8 +1,8 @@
 use mathlib.Core.Path.{ap, sym, subst, _∙_}
 use Rattle.std.specs.Results.{okPart}
-use Rattle.wire.specs.Signatures.{Inside}
-use Rattle.wire.specs.Codes.{alignOf}
-use Rattle.wire.proofs.Table.{align-small}
+use Rattle.signature.specs.Signatures.{Inside}
+use Rattle.signature.specs.Codes.{alignOf}
+use Rattle.signature.proofs.Table.{align-small}
 use Rattle.skip.proofs.Walk.{fixed-alone, inside-ok}
 use Rattle.skip.proofs.basic_end.Needs as need
 
