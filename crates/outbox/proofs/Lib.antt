@@ -1,0 +1,3 @@
+pub mod Lengths
+pub mod Chains
+pub mod Arrays

@@ -1,0 +1,2 @@
+pub mod Marshal
+pub mod Pours
