@@ -1,3 +1,4 @@
 pub mod Lengths
 pub mod Chains
 pub mod Arrays
+pub mod Lent

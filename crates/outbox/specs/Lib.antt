@@ -1,2 +1,3 @@
 pub mod Marshal
 pub mod Pours
+pub mod Drafts
