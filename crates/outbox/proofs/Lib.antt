@@ -2,3 +2,4 @@ pub mod Lengths
 pub mod Chains
 pub mod Arrays
 pub mod Lent
+pub mod ReadBack

@@ -41,6 +41,10 @@ pub record Refused (was : Bytes) (from : ℕ) (is : Bytes) (w : Part) : Type 0 w
 pub record Poured {E : Type 0} (was : Bytes) (from : ℕ) (is : Bytes) (r : Result ℕ E) (w : Part) : Type 0 where
   pub by : Cases r (λ end. Wrote was from is end w) (λ e. Refused was from is w)
 
+-- bytes were written over, and the place after them is not told
+pub record Patched {T E : Type 0} (was : Bytes) (at : ℕ) (is : Bytes) (r : Result T E) (xs : Bytes) : Type 0 where
+  pub by : Cases r (λ t. (is ≡ written was at xs) × (at + length xs ≤ room was)) (λ e. Kept was at is × (room was < at + length xs))
+
 -- The array that begins at `start` and goes on to `end` has its length; or it cannot be one.
 pub record Closed {E : Type 0} (was : Bytes) (start : ℕ) (element : Code) (end : ℕ) (is : Bytes) (r : Result ℕ E) : Type 0 where
   pub by :

@@ -4,12 +4,19 @@ ghost use mathlib.Core.List.{[], _∷_, List};
 ghost use mathlib.Core.Path.{_≡_};
 ghost use Prim.Native.Nat.{ℕ, _<_, _≤_};
 ghost use Rattle.outbox.specs.Marshal.{_▹_, Bytes, Part, array, contentsAt, ended, le32, openArray, pad, putBool, putI32, putPath, putSignature, putString, putText, putU32, putWord, raw};
-ghost use Rattle.outbox.specs.Pours.{Closed, Kept, Poured};
+ghost use Rattle.outbox.specs.Pours.{Closed, Patched, Poured};
 ghost use Rattle.std.specs.declared.result.Result.the-variants.{Ok};
 ghost use Rattle.std.specs.Results.{isOk};
-ghost use mathlib.Core.Bool.{false};
+ghost use mathlib.Core.Bool.{false, true};
+ghost use mir.Syntax.{w32};
+ghost use mir.Val.{ofZ};
+ghost use Rattle.names.specs.Names.{validPath};
+ghost use Rattle.outbox.specs.ReadBack.{EveryReadsBack, ReadsBack};
+ghost use Rattle.wire.specs.declared.reading.ByteOrder.the-variants.{Little};
+ghost use Rattle.wire.specs.Signatures.{validSignature};
+ghost use Rattle.wire.specs.Text.{validText};
 ghost use Rattle.wire.specs.Codes.{alignOf};
-ghost use Rattle.wire.specs.Reading.{gap};
+ghost use Rattle.wire.specs.Reading.{boolAt, gap, pathAt, signatureAt, stringAt, u32At};
 use wire::codes::Code;
 
 // There is no room for what was to be written, or no message may have so much.
@@ -62,21 +69,24 @@ fn put_word(bytes: &mut [u8], from: usize, code: Code, n: u32) -> Result<usize, 
 
 // A number of 32 bits.
 pub fn put_u32(bytes: &mut [u8], from: usize, n: u32) -> Result<usize, Full>
-    ensures { λ r. ⌜ Poured (now (bytes .entry)) from (now (bytes .exit)) r (putU32 n) ⌝ }
+    ensures wrote { λ r. ⌜ Poured (now (bytes .entry)) from (now (bytes .exit)) r (putU32 n) ⌝ }
+    ensures reads { λ r. ⌜ ReadsBack (u32At Little) (now (bytes .exit)) from r n ⌝ }
 {
     put_word(bytes, from, Code::Uint32, n)
 }
 
 // A signed number of 32 bits.
 pub fn put_i32(bytes: &mut [u8], from: usize, n: i32) -> Result<usize, Full>
-    ensures { λ r. ⌜ Poured (now (bytes .entry)) from (now (bytes .exit)) r (putI32 n) ⌝ }
+    ensures wrote { λ r. ⌜ Poured (now (bytes .entry)) from (now (bytes .exit)) r (putI32 n) ⌝ }
+    ensures reads { λ r. ⌜ ReadsBack (u32At Little) (now (bytes .exit)) from r (ofZ w32 n) ⌝ }
 {
     put_word(bytes, from, Code::Int32, n.cast_unsigned())
 }
 
 // A boolean, 0 or 1 in 32 bits.
 pub fn put_bool(bytes: &mut [u8], from: usize, b: bool) -> Result<usize, Full>
-    ensures { λ r. ⌜ Poured (now (bytes .entry)) from (now (bytes .exit)) r (putBool b) ⌝ }
+    ensures wrote { λ r. ⌜ Poured (now (bytes .entry)) from (now (bytes .exit)) r (putBool b) ⌝ }
+    ensures reads { λ r. ⌜ ReadsBack (boolAt Little) (now (bytes .exit)) from r b ⌝ }
 {
     put_word(bytes, from, Code::Boolean, if b { 1 } else { 0 })
 }
@@ -102,14 +112,16 @@ fn put_text(bytes: &mut [u8], from: usize, code: Code, text: &[u8]) -> Result<us
 
 // A string.
 pub fn put_string(bytes: &mut [u8], from: usize, text: &[u8]) -> Result<usize, Full>
-    ensures { λ r. ⌜ Poured (now (bytes .entry)) from (now (bytes .exit)) r (putString (now (text .entry))) ⌝ }
+    ensures wrote { λ r. ⌜ Poured (now (bytes .entry)) from (now (bytes .exit)) r (putString (now (text .entry))) ⌝ }
+    ensures reads { λ r. ⌜ (validText (now (text .entry)) ≡ true → ReadsBack (stringAt Little) (now (bytes .exit)) from r (now (text .entry))) ⌝ }
 {
     put_text(bytes, from, Code::String, text)
 }
 
 // An object path.
 pub fn put_path(bytes: &mut [u8], from: usize, path: &[u8]) -> Result<usize, Full>
-    ensures { λ r. ⌜ Poured (now (bytes .entry)) from (now (bytes .exit)) r (putPath (now (path .entry))) ⌝ }
+    ensures wrote { λ r. ⌜ Poured (now (bytes .entry)) from (now (bytes .exit)) r (putPath (now (path .entry))) ⌝ }
+    ensures reads { λ r. ⌜ (validPath (now (path .entry)) ≡ true → ReadsBack (pathAt Little) (now (bytes .exit)) from r (now (path .entry))) ⌝ }
 {
     put_text(bytes, from, Code::ObjectPath, path)
 }
@@ -122,6 +134,20 @@ pub fn open_array(bytes: &mut [u8], from: usize, element: Code) -> Result<usize,
     put_pad(bytes, at, element)
 }
 
+// Wherever what was written stands in a message, it is read back.
+pub fn values_read_back()
+    ensures { λ _. ⌜ EveryReadsBack ⌝ }
+{
+}
+
+// Overwrites the 32 bits at `at`, as a length that is known only later.
+pub fn patch_u32(bytes: &mut [u8], at: usize, n: u32) -> Result<(), Full>
+    ensures { λ r. ⌜ Patched (now (bytes .entry)) at (now (bytes .exit)) r (le32 n) ⌝ }
+{
+    put_raw(bytes, at, &n.to_le_bytes())?;
+    Ok(())
+}
+
 // The most bytes that a signature may have.
 const MAX_SIGNATURE: usize = 255;
 
@@ -129,6 +155,7 @@ const MAX_SIGNATURE: usize = 255;
 pub fn put_signature(bytes: &mut [u8], from: usize, signature: &[u8]) -> Result<usize, Full>
     ensures wrote { λ r. ⌜ (length (now (signature .entry)) ≤ 255 → Poured (now (bytes .entry)) from (now (bytes .exit)) r (putSignature (now (signature .entry)))) ⌝ }
     ensures long { λ r. ⌜ (255 < length (now (signature .entry)) → (isOk r ≡ false) × (now (bytes .exit) ≡ now (bytes .entry))) ⌝ }
+    ensures reads { λ r. ⌜ (validSignature (now (signature .entry)) ≡ true → ReadsBack signatureAt (now (bytes .exit)) from r (now (signature .entry))) ⌝ }
 {
     if signature.len() > MAX_SIGNATURE {
         return Err(Full);
@@ -139,7 +166,8 @@ pub fn put_signature(bytes: &mut [u8], from: usize, signature: &[u8]) -> Result<
 
 // The head of a variant whose type is one letter; the value follows.
 pub fn open_variant(bytes: &mut [u8], from: usize, letter: u8) -> Result<usize, Full>
-    ensures { λ r. ⌜ Poured (now (bytes .entry)) from (now (bytes .exit)) r (putSignature (letter ∷ [])) ⌝ }
+    ensures wrote { λ r. ⌜ Poured (now (bytes .entry)) from (now (bytes .exit)) r (putSignature (letter ∷ [])) ⌝ }
+    ensures reads { λ r. ⌜ (validSignature (letter ∷ []) ≡ true → ReadsBack signatureAt (now (bytes .exit)) from r (letter ∷ [])) ⌝ }
 {
     put_signature(bytes, from, &[letter])
 }
