@@ -11,8 +11,8 @@ use Rattle.std.proofs.shelf.Tests.{cases-lt}
 use Rattle.std.specs.declared.result.Result.{Result}
 use Rattle.std.specs.declared.result.Result.the-variants.{Ok, Err}
 use Rattle.outbox.specs.Marshal.{Bytes, Part}
-use Rattle.outbox.specs.Pours.{Poured, room}
-use Rattle.outbox.proofs.Chains.{wrote-size}
+use Rattle.outbox.specs.Pours.{Patched, Poured, room}
+use Rattle.outbox.proofs.Chains.{length-written, wrote-size}
 
 pub poured-size : {E : Type 0} (was is : Bytes) (f : ℕ) (r : Result ℕ E) (w : Part) → Poured was f is r w → length is ≡ length was
 poured-size was is f (Ok g) w a = wrote-size was is f g w (a .by)
@@ -83,3 +83,10 @@ added {E} was is f s a n w p q below h =
     let l : n ≡ length (w 0) = omega (arith, m .by .ends) in
     let t : take n (drop f is) ≡ w 0 = ap (take n) (m .by .bytes) ∙ take-at (w 0) _ n (sym l) in
     (take-more f n is ∙ ap (λ x. x ++ take n (drop f is)) k ∙ ap (λ x. take f was ++ x) t, l, omega (arith, m .by .fits))
+
+pub patched-size : {T E : Type 0} (was is : Bytes) (at : ℕ) (r : Result T E) (xs : Bytes) → Patched was at is r xs → length is ≡ length was
+patched-size was is at (Ok t) xs a = ap length (a .by .0) ∙ length-written was at xs (omega (arith, a .by .1))
+patched-size was is at (Err e) xs a = a .by .0 .size
+
+pub patched-at : {T E : Type 0} (a a′ b b′ : Bytes) (f : ℕ) (r : Result T E) (xs : Bytes) → a ≡ a′ → b ≡ b′ → Patched a f b r xs → Patched a′ f b′ r xs
+patched-at a a′ b b′ f r xs p q h = rw (sym p, sym q) h

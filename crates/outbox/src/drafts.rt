@@ -3,10 +3,12 @@ ghost use denote.Ref.{name};
 ghost use lib.ListN.{drop, length, take};
 ghost use mathlib.Core.Path.{_≡_};
 ghost use Prim.Native.Nat.{_-_};
-ghost use Rattle.outbox.specs.Drafts.{Sent, Went, drafted, following, fresh, kept, left};
-ghost use Rattle.outbox.specs.Marshal.{Part};
-ghost use Rattle.outbox.specs.Pours.{Poured};
+ghost use Rattle.outbox.specs.Drafts.{Grew, Sent, Went, drafted, following, fresh, kept, left};
+ghost use Rattle.outbox.specs.Marshal.{Part, le32, raw};
+ghost use Rattle.outbox.specs.Pours.{Patched, Poured};
 use crate::writing::Full;
+use crate::writing::patch_u32;
+use crate::writing::put_raw;
 
 // What can be written as a part of a message.
 pub trait Marshal {
@@ -14,6 +16,18 @@ pub trait Marshal {
 
     fn marshal(&self, bytes: &mut [u8], from: usize) -> Result<usize, Full>
         ensures { λ r. ⌜ Poured (now (bytes .entry)) from (now (bytes .exit)) r (part (now (self .entry))) ⌝ };
+}
+
+// Bytes that are a part as they are.
+#[derive(Clone, Copy)]
+pub struct Raw<'a>(pub &'a [u8]);
+
+pub impl Marshal for Raw<'_> as RawMarshal {
+    ghost part = { λ s. raw (s .0 .now) };
+
+    fn marshal(&self, bytes: &mut [u8], from: usize) -> Result<usize, Full> {
+        put_raw(bytes, from, self.0)
+    }
 }
 
 // How far the bytes hold messages, and the serial of the next one.
@@ -63,6 +77,13 @@ impl<'a> Draft<'a> {
         self.mark.serial
     }
 
+    // Where in the bytes the message begins.
+    pub fn start(&self) -> usize
+        ensures { λ r. ⌜ r ≡ now (self .entry) .start ⌝ }
+    {
+        self.start
+    }
+
     // How much of the message there is.
     pub fn len(&self) -> usize
         ensures { λ r. ⌜ r ≡ drafted (now (self .entry)) ⌝ }
@@ -80,6 +101,28 @@ impl<'a> Draft<'a> {
         let len = value.marshal(&mut bytes[from..end], at)?;
         self.mark.fill = self.start + len;
         Ok(())
+    }
+
+    // The message goes on to an offset, by what was written from its start on.
+    pub fn grow_to(&mut self, bytes: &[u8], len: usize) -> Result<(), Full>
+        ensures { λ r. ⌜ Grew (now (self .entry)) (now (bytes .entry)) (now (self .exit)) r len ⌝ }
+    {
+        if self.start > bytes.len() || len > bytes.len() - self.start {
+            return Err(Full);
+        }
+        self.mark.fill = self.start + len;
+        Ok(())
+    }
+
+    // Overwrites 32 bits of the message, at their offset from its first byte, as a length that is known only later.
+    pub fn patch_u32(&self, bytes: &mut [u8], at: usize, n: u32) -> Result<(), Full>
+        ensures patched { λ r. ⌜ Patched (drop (now (self .entry) .start) (now (bytes .entry))) at (drop (now (self .entry) .start) (now (bytes .exit))) r (le32 n) ⌝ }
+        ensures below { λ _. ⌜ take (now (self .entry) .start) (now (bytes .exit)) ≡ take (now (self .entry) .start) (now (bytes .entry)) ⌝ }
+        ensures size { λ _. ⌜ length (now (bytes .exit)) ≡ length (now (bytes .entry)) ⌝ }
+    {
+        let end = bytes.len();
+        let from = self.start.min(end);
+        patch_u32(&mut bytes[from..end], at, n)
     }
 
     // Takes the draft apart, so that its `drop` does not run: the mark stays behind the message, and its serial is used.
