@@ -1,0 +1,5 @@
+pub mod Fits
+pub mod Fronts
+pub mod Laws
+pub mod Plain
+pub mod Shapes
