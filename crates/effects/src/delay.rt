@@ -2,7 +2,7 @@ ghost use Prim.Native.Nat.{_≤_};
 use crate::text::Text;
 
 // An echo: how much of it is fed back, and the name that the player gave it.
-#[derive(Clone, Copy)]
+#[derive(Drop)]
 pub struct Delay {
     pub(crate) bypassed: bool,
     pub(crate) feedback: u32,

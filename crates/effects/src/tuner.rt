@@ -4,7 +4,7 @@ ghost use lib.Signed.{_≤ℤ_};
 
 // A tuner: how far the string is off, in hundredths of a semitone, and whether the display is held.
 // Its fault number is 1 while it is unplugged.
-#[derive(Clone, Copy)]
+#[derive(Drop)]
 pub struct Tuner {
     pub(crate) cents: i32,
     pub(crate) locked: bool,
