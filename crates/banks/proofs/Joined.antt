@@ -14,8 +14,8 @@ use Rattle.std.specs.declared.result.Result.the-variants.{Ok, Err}
 use Rattle.std.specs.Finite.{nth}
 use Rattle.names.specs.Names.{all}
 use Rattle.effects.specs.Model.{InterfaceModel}
-use Rattle.banks.specs.declared.Place.{Place}
-use Rattle.banks.specs.declared.Place.the-variants.{First, Second, Nowhere}
+use Rattle.banks.specs.declared.pair.Place.{Place}
+use Rattle.banks.specs.declared.pair.Place.the-variants.{First, Second, Nowhere}
 use Rattle.banks.specs.Rows.{asked, changed, joined, placeOf, Stands}
 
 -- looking

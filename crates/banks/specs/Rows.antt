@@ -11,9 +11,9 @@ use Rattle.std.specs.declared.result.Result.{Result}
 use Rattle.std.specs.declared.result.Result.the-variants.{Ok, Err}
 use Rattle.std.specs.Finite.{nth}
 use Rattle.effects.specs.Model.{InterfaceModel}
-use Rattle.banks.specs.declared.NoSuchInstance.{NoSuchInstance}
-use Rattle.banks.specs.declared.Place.{Place}
-use Rattle.banks.specs.declared.Place.the-variants.{First, Second, Nowhere}
+use Rattle.banks.specs.declared.bank.NoSuchInstance.{NoSuchInstance}
+use Rattle.banks.specs.declared.pair.Place.{Place}
+use Rattle.banks.specs.declared.pair.Place.the-variants.{First, Second, Nowhere}
 
 -- There are no more numbers than these.
 abbrev pub capacity : ℕ

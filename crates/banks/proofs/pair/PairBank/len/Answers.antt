@@ -1,7 +1,7 @@
 use mathlib.Core.Path.{sym, _∙_}
 use native.Mathlib.Omega.{arith}
 use Rattle.banks.proofs.Joined.{joined-length}
-use Rattle.banks.proofs.PairBank.len.Needs as need
+use Rattle.banks.proofs.pair.PairBank.len.Needs as need
 
 pub returns : need.returns
 returns g c =

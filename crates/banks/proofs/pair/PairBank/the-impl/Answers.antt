@@ -1,6 +1,6 @@
 use Rattle.effects.specs.Model.{wellFormed}
 use Rattle.banks.proofs.Joined.{joined-few, joined-all}
-use Rattle.banks.proofs.PairBank.the-impl.Needs as need
+use Rattle.banks.proofs.pair.PairBank.the-impl.Needs as need
 
 pub few-law : need.few-law
 few-law g x = joined-few (g .A·Bank .models (x .first)) (g .B·Bank .models (x .second))

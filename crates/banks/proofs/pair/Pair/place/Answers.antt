@@ -2,10 +2,10 @@ use native.Mathlib.Omega.{arith}
 use mathlib.Core.Path.{ap, sym}
 use Prim.Native.Nat.{_-_}
 use Rattle.std.proofs.shelf.Ways.{tells}
-use Rattle.banks.specs.declared.Place.the-variants.{Second}
+use Rattle.banks.specs.declared.pair.Place.the-variants.{Second}
 use Rattle.banks.specs.Rows.{Stands}
 use Rattle.banks.proofs.Joined.{at-first, at-second, at-neither}
-use Rattle.banks.proofs.Pair.place.Needs as need
+use Rattle.banks.proofs.pair.Pair.place.Needs as need
 
 pub returns-then-i-ge65536 : need.returns-then-i-ge65536
 returns-then-i-ge65536 g c = record {
