@@ -21,23 +21,18 @@ use Rattle.effects.specs.Makes.{delayWith, tunerWith}
 
 -- 64 bytes are a text and 65 are not; 32 and 126 may stand in one, 31 and 127 may not
 texts : validText (replicate 64 32) ≡ true
-unfolding plain
 texts = refl
 
 too-long : validText (replicate 65 32) ≡ false
-unfolding plain
 too-long = refl
 
 tilde : validText (126 ∷ []) ≡ true
-unfolding plain
 tilde = refl
 
 below-space : validText (31 ∷ []) ≡ false
-unfolding plain
 below-space = refl
 
 past-tilde : validText (127 ∷ []) ≡ false
-unfolding plain
 past-tilde = refl
 
 -- new ones
@@ -48,7 +43,7 @@ tuner : InterfaceModel
 tuner = tunerWith (pos 0) false 0
 
 delay-well : wellFormed delay ≡ true
-unfolding delay wellFormed validInterface validMember validError bytesBefore isStandard standardName plain
+unfolding delay wellFormed validInterface validMember validError bytesBefore isStandard standardName
 delay-well = refl
 
 -- a standard name is none of an interface

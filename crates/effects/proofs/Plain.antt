@@ -14,13 +14,11 @@ pub Left : Bytes → ℕ → Type 0
 Left bs i = plain bs ≡ plain (drop i bs)
 
 next : (bs : Bytes) (i : ℕ) → i < length bs → plain (drop i bs) ≡ (printable (getD bs i 0) && plain (drop (suc i) bs))
-unfolding plain
 next [] i h = absurd (omega arith)
 next (b ∷ bs) zero h = refl
 next (b ∷ bs) (suc i) h = next bs i (omega arith)
 
 at-end : (bs : Bytes) (i : ℕ) → length bs ≤ i → plain (drop i bs) ≡ true
-unfolding plain
 at-end [] zero h = refl
 at-end [] (suc i) h = refl
 at-end (b ∷ bs) zero h = absurd (omega arith)

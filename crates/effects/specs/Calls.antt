@@ -68,7 +68,7 @@ valuesOf ps = map (λ p. p .value) ps
 
 -- the lent places: the values in order and the further places as before, or all as before
 abbrev pub allAfter : Result ℕ PropertyFault → InterfaceModel → List ValueModel → List ValueModel
-allAfter (Ok n) m before = valuesOf (m .properties) ++ drop n before
+allAfter (Ok n) m before = valuesOf (m .properties) ++ drop (length (m .properties)) before
 allAfter (Err e) m before = before
 
 -- set_mut: the first of these that holds refuses

@@ -9,7 +9,7 @@ use Rattle.names.specs.Names.{Bytes, all}
 abbrev pub printable : ℕ → Bool
 printable b = leb 32 b && leb b 126
 
-unfoldable pub plain : Bytes → Bool
+abbrev pub plain : Bytes → Bool
 plain bs = all printable bs
 
 -- at most 64 bytes, each printable

@@ -1,6 +1,7 @@
 ghost use mathlib.Core.Path.{_≡_};
 ghost use mathlib.Core.Bool.{false};
 ghost use mathlib.Core.List.{[]};
+ghost use lib.Dec.{ltb};
 ghost use Rattle.effects.specs.Makes.{delayModel, delayWith};
 use crate::delay::Delay;
 use crate::interface::Access;
@@ -14,6 +15,9 @@ use crate::value::Signature;
 use crate::value::Value;
 use names::same;
 
+const PROPERTIES: usize = 3;
+const METHODS: usize = 2;
+
 impl Delay {
     pub fn new() -> Delay
         ensures { λ r. ⌜ delayModel r ≡ delayWith false 0 [] ⌝ }
@@ -23,6 +27,12 @@ impl Delay {
             feedback: 0,
             label: Text::empty(),
         }
+    }
+
+    fn is_hot(&self) -> bool
+        ensures { λ r. ⌜ r ≡ ltb 900 (now (self .entry) .feedback) ⌝ }
+    {
+        self.feedback > 900
     }
 }
 
@@ -34,7 +44,7 @@ pub impl Interface for Delay as DelayInterface {
     }
 
     fn property_count(&self) -> usize {
-        3
+        PROPERTIES
     }
 
     fn property(&self, i: usize) -> Option<PropertyInfo<'_>> {
@@ -59,7 +69,7 @@ pub impl Interface for Delay as DelayInterface {
     }
 
     fn method_count(&self) -> usize {
-        2
+        METHODS
     }
 
     fn method(&self, i: usize) -> Option<&[u8]> {
@@ -87,7 +97,7 @@ pub impl Interface for Delay as DelayInterface {
         into[0] = Value::Bool(self.bypassed);
         into[1] = Value::U32(self.feedback);
         into[2] = Value::Str(self.label);
-        Ok(3)
+        Ok(self.property_count())
     }
 
     fn set_mut(&mut self, name: &[u8], value: &Value) -> Result<(), SetRefusal> {
@@ -119,7 +129,7 @@ pub impl Interface for Delay as DelayInterface {
             return DispatchResult2::RequiresMut;
         }
         if same(name, b"Check") {
-            if self.feedback > 900 {
+            if self.is_hot() {
                 return DispatchResult2::Async(Err(b"com.example.Pedal.Error.TooHot"));
             }
             return DispatchResult2::Async(Ok(()));

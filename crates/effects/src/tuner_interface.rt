@@ -14,6 +14,9 @@ use crate::value::Signature;
 use crate::value::Value;
 use names::same;
 
+const PROPERTIES: usize = 2;
+const METHODS: usize = 1;
+
 impl Tuner {
     pub fn new() -> Tuner
         ensures { λ r. ⌜ tunerModel r ≡ tunerWith (pos 0) false 0 ⌝ }
@@ -59,7 +62,7 @@ pub impl Interface for Tuner as TunerInterface {
     }
 
     fn property_count(&self) -> usize {
-        2
+        PROPERTIES
     }
 
     fn property(&self, i: usize) -> Option<PropertyInfo<'_>> {
@@ -79,7 +82,7 @@ pub impl Interface for Tuner as TunerInterface {
     }
 
     fn method_count(&self) -> usize {
-        1
+        METHODS
     }
 
     fn method(&self, i: usize) -> Option<&[u8]> {
@@ -110,7 +113,7 @@ pub impl Interface for Tuner as TunerInterface {
         }
         into[0] = Value::I32(self.cents);
         into[1] = Value::Bool(self.locked);
-        Ok(2)
+        Ok(self.property_count())
     }
 
     fn set_mut(&mut self, name: &[u8], _value: &Value) -> Result<(), SetRefusal> {

@@ -1,6 +1,7 @@
-use mathlib.Core.Path.{refl}
+use mathlib.Core.Path.{ap}
 use mathlib.Core.List.{[], _∷_}
 use native.Mathlib.Omega.{arith}
+use Rattle.std.specs.declared.result.Result.the-variants.{Ok}
 use Rattle.effects.specs.declared.value.Value.the-variants as V
 use Rattle.effects.specs.Values.{seen}
 use Rattle.effects.proofs.Fronts.{written-front}
@@ -10,6 +11,6 @@ pub returns : need.returns
 returns c =
     let d = c .args .self .now in
     record {
-      answer = refl;
+      answer = ap Ok (c .property-count .ensures);
       values = written-front seen (V.Bool (d .bypassed) ∷ V.U32 (d .feedback) ∷ V.Str (d .label) ∷ []) (c .args .into .now) (omega arith);
     }
