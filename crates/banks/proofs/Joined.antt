@@ -1,22 +1,21 @@
 -- Two lists of interfaces, one after the other, up to a number of them.
-use mathlib.Core.Path.{_≡_, refl, sym, ap, _∙_}
+use mathlib.Core.Path.{_≡_, refl, sym, ap, subst, _∙_}
+use mathlib.Core.Logic.{⊎-elim}
 use mathlib.Core.Bool.{Bool, true, false}
 use mathlib.Core.List.{List, [], _∷_, _++_}
 use Prim.Native.Nat.{ℕ, zero, suc, _+_, _-_, _≤_, _<_, min}
 use native.Mathlib.Omega.{arith}
 use lib.ListN.{length, take, length-append, length-take}
-use Rattle.std.proofs.shelf.Tests.{and-from, and-parts}
+use Rattle.std.proofs.shelf.Tests.{and-from, and-parts, lt-ltb, le-ltb, cond-true, cond-false, cases-lt}
 use Rattle.std.proofs.shelf.Ways.{tells}
 use Rattle.std.specs.declared.option.Option.{Option}
 use Rattle.std.specs.declared.option.Option.the-variants.{Some, None}
-use Rattle.std.specs.declared.result.Result.{Result}
-use Rattle.std.specs.declared.result.Result.the-variants.{Ok, Err}
 use Rattle.std.specs.Finite.{nth}
 use Rattle.names.specs.Names.{all}
 use Rattle.effects.specs.Model.{InterfaceModel}
 use Rattle.banks.specs.declared.pair.Place.{Place}
 use Rattle.banks.specs.declared.pair.Place.the-variants.{First, Second, Nowhere}
-use Rattle.banks.specs.Rows.{asked, changed, joined, placeOf, Stands}
+use Rattle.banks.specs.Rows.{changed, joined, placeOf, Stands}
 
 -- looking
 module _ {X : Type 0} where
@@ -70,20 +69,31 @@ module _ (f : InterfaceModel → InterfaceModel) where
 
 -- a number of a pair
 module _ (xs ys : List InterfaceModel) (i : ℕ) where
-  pub at-first : i < 65536 → i < length xs → Stands xs ys i (First i)
+  at-first : i < 65536 → i < length xs → Stands xs ys i (First i)
   unfolding joined
   at-first h k =
       (sym (nth-take 65536 (xs ++ ys) i h ∙ nth-front xs ys i k), λ f. ap (take 65536) (change-front f xs ys i k) ∙ change-take f 65536 (xs ++ ys) i)
 
-  pub at-second : i < 65536 → length xs ≤ i → Stands xs ys i (Second (i - length xs))
+  at-second : i < 65536 → length xs ≤ i → Stands xs ys i (Second (i - length xs))
   unfolding joined
   at-second h k =
       (sym (nth-take 65536 (xs ++ ys) i h ∙ nth-back xs ys i k), λ f. ap (take 65536) (change-back f xs ys i k) ∙ change-take f 65536 (xs ++ ys) i)
 
-  pub at-neither : 65536 ≤ i → Stands xs ys i Nowhere
+  at-neither : 65536 ≤ i → Stands xs ys i Nowhere
   unfolding joined
   at-neither h =
       (sym (nth-past 65536 (xs ++ ys) i h), λ f. sym (change-past f (joined xs ys) i (simp length-take (omega arith))))
+
+  -- the place of number i is good for it
+  pub at-place : Stands xs ys i (placeOf (length xs) i)
+  at-place =
+      ⊎-elim
+      (λ h. ⊎-elim
+      (λ k. subst (Stands xs ys i) (sym (cond-true _ _ _ (lt-ltb i 65536 h) ∙ cond-true _ _ _ (lt-ltb i (length xs) k))) (at-first h k))
+      (λ k. subst (Stands xs ys i) (sym (cond-true _ _ _ (lt-ltb i 65536 h) ∙ cond-false _ _ _ (le-ltb i (length xs) k))) (at-second h k))
+      (cases-lt i (length xs)))
+      (λ h. subst (Stands xs ys i) (sym (cond-false _ _ _ (le-ltb i 65536 h))) (at-neither h))
+      (cases-lt i 65536)
 
 -- the laws
 all-take : {X : Type 0} (f : X → Bool) (k : ℕ) (xs : List X) → all f xs ≡ true → all f (take k xs) ≡ true
@@ -107,14 +117,3 @@ joined-few xs ys = simp length-take (omega arith)
 pub joined-length : (xs ys : List InterfaceModel) → length (joined xs ys) ≡ min (length xs + length ys) 65536
 unfolding joined
 joined-length xs ys = simp (length-take, length-append) (omega arith)
-
--- an answer that is the same for each interface
-pub same-asked : {X : Type 0} (x : X) (ms : List InterfaceModel) (i : ℕ) → i < length ms → Ok x ≡ asked (λ _. x) (nth ms i)
-same-asked x [] i h = absurd (omega arith)
-same-asked x (m ∷ ms) zero h = refl
-same-asked x (m ∷ ms) (suc i) h = same-asked x ms i (omega arith)
-
-pub none-asked : {X : Type 0} (f : InterfaceModel → X) (ms : List InterfaceModel) (i : ℕ) → length ms ≤ i → Err (record {}) ≡ asked f (nth ms i)
-none-asked f [] i h = refl
-none-asked f (m ∷ ms) zero h = absurd (omega arith)
-none-asked f (m ∷ ms) (suc i) h = none-asked f ms i (omega arith)

@@ -71,10 +71,9 @@ pub trait Bank {
     ) -> Answer<DispatchResult2<'call>>
         ensures { λ r. ⌜ through seenDispatch r ≡ asked (λ _. requiresMut) (nth (models (now (self .entry))) i) ⌝ }
     {
-        if i < self.len() {
-            Ok(DispatchResult2::RequiresMut)
-        } else {
-            Err(NoSuchInstance)
+        match self.name(i) {
+            Ok(_) => Ok(DispatchResult2::RequiresMut),
+            Err(e) => Err(e),
         }
     }
 

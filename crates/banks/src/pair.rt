@@ -1,4 +1,5 @@
 ghost use mathlib.Core.Path.{_≡_};
+ghost use Prim.Native.Nat.{_+_, _≤_, min};
 ghost use lib.ListN.{length};
 ghost use Rattle.banks.specs.Rows.{joined, placeOf, Stands};
 use crate::bank::Answer;
@@ -24,19 +25,33 @@ pub struct Pair<A, B> {
     pub second: B,
 }
 
+// The place of number i, if the first has n.
+fn place_of(n: usize, i: usize) -> Place
+    ensures { λ r. ⌜ r ≡ placeOf n i ⌝ }
+{
+    if i >= 65536 {
+        Place::Nowhere
+    } else if i < n {
+        Place::First(i)
+    } else {
+        Place::Second(i - n)
+    }
+}
+
+// How many numbers there are, if the first has m and the second n.
+fn total(m: usize, n: usize) -> usize
+    requires { ⌜ (m ≤ 65536) × (n ≤ 65536) ⌝ }
+    ensures { λ r. ⌜ r ≡ min (m + n) 65536 ⌝ }
+{
+    (m + n).min(65536)
+}
+
 impl<A: Bank, B: Bank> Pair<A, B> {
     fn place(&self, i: usize) -> Place
         ensures answer { λ r. ⌜ r ≡ placeOf (length (A·Bank .models (now (self .entry) .first))) i ⌝ }
         ensures stands { λ r. ⌜ Stands (A·Bank .models (now (self .entry) .first)) (B·Bank .models (now (self .entry) .second)) i r ⌝ }
     {
-        let n = self.first.len();
-        if i >= 65536 {
-            Place::Nowhere
-        } else if i < n {
-            Place::First(i)
-        } else {
-            Place::Second(i - n)
-        }
+        place_of(self.first.len(), i)
     }
 }
 
@@ -44,7 +59,7 @@ pub impl<A: Bank, B: Bank> Bank for Pair<A, B> as PairBank {
     ghost models = { λ s. joined (A·Bank .models (s .first)) (B·Bank .models (s .second)) };
 
     fn len(&self) -> usize {
-        (self.first.len() + self.second.len()).min(65536)
+        total(self.first.len(), self.second.len())
     }
 
     fn name(&self, i: usize) -> Answer<&[u8]> {

@@ -16,6 +16,7 @@ use crate::value::Value;
 use names::same;
 
 const PROPERTIES: usize = 3;
+
 const METHODS: usize = 2;
 
 impl Delay {

@@ -15,6 +15,7 @@ use crate::value::Value;
 use names::same;
 
 const PROPERTIES: usize = 2;
+
 const METHODS: usize = 1;
 
 impl Tuner {

@@ -1,4 +1,3 @@
-use mathlib.Core.Path.{sym, _∙_}
 use native.Mathlib.Omega.{arith}
 use Rattle.banks.proofs.Joined.{joined-length}
 use Rattle.banks.proofs.pair.PairBank.len.Needs as need
