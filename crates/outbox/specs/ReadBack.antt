@@ -11,7 +11,7 @@ use Rattle.names.specs.Names.{validPath}
 use Rattle.wire.specs.declared.reading.ByteOrder.the-variants.{Little}
 use Rattle.wire.specs.declared.reading.Fault.{Fault}
 use Rattle.wire.specs.Reading.{boolAt, part, pathAt, signatureAt, stringAt, u32At}
-use Rattle.wire.specs.Signatures.{validSignature}
+use Rattle.signature.specs.Signatures.{validSignature}
 use Rattle.wire.specs.Text.{validText}
 use Rattle.outbox.specs.Marshal.{Bytes, Part, putBool, putPath, putSignature, putString, putU32}
 
