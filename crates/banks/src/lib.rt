@@ -1,0 +1,4 @@
+pub mod bank;
+pub mod nothing;
+pub mod one;
+pub mod pair;

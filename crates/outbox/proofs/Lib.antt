@@ -1,0 +1,5 @@
+pub mod Lengths
+pub mod Chains
+pub mod Arrays
+pub mod Lent
+pub mod ReadBack

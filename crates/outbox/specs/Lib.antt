@@ -1,0 +1,4 @@
+pub mod Marshal
+pub mod Pours
+pub mod Drafts
+pub mod ReadBack
