@@ -1,4 +1,16 @@
-// Reads a chain plan from standard input and says of each line whether it can be placed by its names.
+// Reads a chain plan from standard input and says of each line whether it can be placed by its names; then shows the
+// effects that the pedal has.
+mod bank;
+
+use bank::show_bank;
+use banks::one::One;
+use banks::one::OneBank;
+use banks::pair::Pair;
+use banks::pair::PairBank;
+use effects::delay::Delay;
+use effects::delay_interface::DelayInterface;
+use effects::tuner::Tuner;
+use effects::tuner_interface::TunerInterface;
 use plan::FaultDisplay;
 use plan::WhatDisplay;
 use plan::judge;
@@ -47,7 +59,8 @@ fn run(rt: &LibcRuntime) -> Result<(), AnyError> {
     }
     let Tally { placeable, refused } = tally;
     println!(rt, "{placeable} can be placed by their names, {refused} cannot")?;
-    Ok(())
+    let delays = Pair { first: One { of: Delay::new() }, second: One { of: Delay::new() } };
+    show_bank(rt, &Pair { first: delays, second: One { of: Tuner::new() } })
 }
 
 fn main(rt: LibcRuntime) -> Result<(), AnyError> {
