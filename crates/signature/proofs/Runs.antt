@@ -1,10 +1,9 @@
 -- A loop of the code runs as `repeat` does.
-use mathlib.Core.Path.{_≡_, refl, sym, ap, subst, _∙_}
+use mathlib.Core.Path.{_≡_, refl, sym, ap, _∙_}
 use Prim.Native.Nat.{ℕ, zero, suc, _<_, _≤_}
 use native.Mathlib.Omega.{arith}
 use Rattle.signature.specs.Repeat.{Turn, go, halt, after, repeat}
 use Rattle.std.specs.declared.option.Option.{Option}
-use Rattle.std.specs.declared.option.Option.the-variants.{Some, None}
 
 module _ {S R : Type 0} (turn : S → Turn S R) (size : S → ℕ) where
   -- from the state s the loop answers what it answers from its start, in at most n turns more

@@ -1,6 +1,6 @@
 -- How deep containers may nest: the D-Bus Specification, "Valid Signatures" ("32 array type codes and 32 open parentheses")
 -- and "Marshalling containers" ("a total message depth .. [not] larger than 64").
-use mathlib.Core.Bool.{Bool, cond, _||_}
+use mathlib.Core.Bool.{cond, _||_}
 use Prim.Native.Nat.{ℕ, _-_}
 use lib.Dec.{eqb}
 use Rattle.std.specs.declared.option.Option.{Option}

@@ -13,7 +13,7 @@ use Rattle.signature.specs.declared.codes.Code.the-variants.{Byte, Boolean, In
 use Rattle.signature.specs.declared.levels.Levels.{Levels}
 use Rattle.signature.specs.Codes.{basic, codeOf}
 use Rattle.signature.specs.Depth.{full, inArray, inStructure}
-use Rattle.signature.specs.Repeat.{Turn, go, halt, bind, onward, repeat}
+use Rattle.signature.specs.Repeat.{Turn, halt, bind, onward, repeat}
 
 -- an end lies past the start, and not past the bytes
 abbrev pub Inside : List ℕ → ℕ → Option ℕ → Type 0
@@ -74,7 +74,7 @@ unfoldable pub typeEnd : List ℕ → Bool → Levels → ℕ → Option ℕ
 typeEnd sig inArr l at = typeEndBy sig (l .all) inArr l at
 
 -- where the first complete type ends
-unfoldable pub firstEnd : List ℕ → Option ℕ
+abbrev pub firstEnd : List ℕ → Option ℕ
 firstEnd sig = typeEnd sig false full 0
 
 -- one type more, or the end

@@ -1,9 +1,7 @@
 // Signatures: whether bytes are one, and where their first single complete type ends.
 ghost use mathlib.Core.Bool.{false};
 ghost use mathlib.Core.Path.{_≡_};
-ghost use Prim.Native.Nat.{_≤_};
-ghost use lib.ListN.{length, getD};
-ghost use Rattle.std.specs.declared.option.Option.the-variants.{Some};
+ghost use lib.ListN.{getD};
 ghost use Rattle.signature.specs.Signatures.{Inside, firstEnd, typeEnd, fieldsEnd, entryEnd, validSignature, single};
 
 pub mod codes;

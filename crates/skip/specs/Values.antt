@@ -1,5 +1,5 @@
 -- Where a value of a type ends in a message: the D-Bus Specification, sections "Marshalling basic types" and "Marshalling containers".
-use mathlib.Core.Bool.{Bool, true, false, cond}
+use mathlib.Core.Bool.{true, cond}
 use mathlib.Core.List.{List}
 use Prim.Native.Nat.{ℕ, zero, suc, _+_, _-_, _<_, _≤_}
 use lib.Dec.{eqb, leb, ltb}

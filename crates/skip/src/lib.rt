@@ -1,7 +1,6 @@
 // Past a value of any type, whatever stands inside it, by the rules that reading has.
 ghost use mathlib.Core.Path.{_≡_};
-ghost use Prim.Native.Nat.{ℕ, _+_, _<_, _≤_};
-ghost use lib.ListN.{length};
+ghost use Prim.Native.Nat.{_+_, _<_};
 ghost use Rattle.wire.specs.Reading.{Grown};
 ghost use Rattle.signature.specs.Signatures.{Inside};
 ghost use Rattle.std.specs.Options.{Cases};

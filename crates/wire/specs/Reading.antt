@@ -1,6 +1,6 @@
 -- Values in a message: the D-Bus Specification, sections "Byte order and alignment" and "Marshalling basic types".
 -- Each is read at a place, and gives the value and the place after it, or a fault with its place.
-use mathlib.Core.Bool.{Bool, true, false, cond}
+use mathlib.Core.Bool.{Bool, cond}
 use mathlib.Core.List.{List}
 use Prim.Native.Nat.{ℕ, _+_, _-_, _*_, _%_, _≤_}
 use denote.Ref.{RefT}

@@ -7,7 +7,7 @@ use lib.ListN.{length}
 use Rattle.std.proofs.shelf.Tests.{cond-true, cond-false, eq-eqb}
 use Rattle.signature.specs.declared.codes.Code.the-variants.{Array, Structure, DictEntry}
 use Rattle.signature.specs.Codes.{codeOf}
-use Rattle.signature.specs.Signatures.{closed, entryEnd, fieldsEnd, typeEnd}
+use Rattle.signature.specs.Signatures.{typeEnd}
 use Rattle.signature.proofs.Runs.{begun, next, halts}
 use Rattle.signature.proofs.Types.{alone, by-code, coded-inside, entryPart, letter-inside, no-code, none-past, stuck, through, turn-close, turn-on, wider}
 use Rattle.signature.proofs.+entry_end+fields_end+type_end.Needs as need

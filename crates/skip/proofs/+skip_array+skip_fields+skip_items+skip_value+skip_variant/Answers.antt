@@ -2,7 +2,6 @@ use native.Mathlib.Omega.{arith}
 use mathlib.Core.Path.{refl, sym, ap, _∙_}
 use Prim.Native.Nat.{_+_, _-_}
 use lib.ListN.{length}
-use Rattle.std.specs.declared.option.Option.the-variants.{Some}
 use Rattle.signature.specs.declared.codes.Code.the-variants.{Array, Structure, DictEntry, Variant}
 use Rattle.signature.proofs.Runs.{begun, next, halts}
 use Rattle.signature.proofs.Types.{letter-inside, none-past, stuck, through}
