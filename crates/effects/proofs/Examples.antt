@@ -8,7 +8,7 @@ use lib.IntN.{pos, negsuc}
 use lib.ListN.{replicate}
 use Rattle.std.specs.declared.option.Option.the-variants.{Some, None}
 use Rattle.std.specs.declared.result.Result.the-variants.{Ok, Err}
-use Rattle.names.specs.Names.{validInterface, validMember, validError}
+use Rattle.names.specs.Names.{valid}
 use Rattle.names.specs.Paths.{bytesBefore}
 use Rattle.names.specs.declared.standard.Standard.the-variants.{Properties}
 use Rattle.names.specs.Standard.{isStandard, standardName}
@@ -43,12 +43,12 @@ tuner : InterfaceModel
 tuner = tunerWith (pos 0) false 0
 
 delay-well : wellFormed delay ≡ true
-unfolding delay wellFormed validInterface validMember validError bytesBefore isStandard standardName
+unfolding delay wellFormed valid bytesBefore isStandard standardName
 delay-well = refl
 
 -- a standard name is none of an interface
 no-interface : wellFormed (record { name = standardName Properties; properties = []; methods = []; fault = 0 }) ≡ false
-unfolding wellFormed validInterface isStandard standardName
+unfolding wellFormed valid isStandard standardName
 no-interface = refl
 
 reads-zero : reads delay (codes "Feedback") ≡ Some (Ok (count 0))

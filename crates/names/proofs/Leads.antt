@@ -1,5 +1,5 @@
 -- Names that begin with a certain byte.
-use mathlib.Core.Path.{_≡_, refl, sym, ap, _∙_}
+use mathlib.Core.Path.{_≡_, refl, sym, ap, subst, _∙_}
 use mathlib.Core.Bool.{Bool, true, false, cond, _&&_, false≢true}
 use mathlib.Core.List.{List, [], _∷_, _++_}
 use mathlib.Core.Logic.{⊎-elim}
@@ -14,10 +14,13 @@ use Rattle.std.specs.Options.{Cases as BySome}
 use Rattle.std.specs.declared.option.Option.{Option}
 use Rattle.std.specs.declared.option.Option.the-variants.{Some, None}
 use Rattle.names.specs.declared.grammar.Alphabet.{Alphabet}
-use Rattle.names.specs.declared.grammar.Alphabet.the-variants.{Path, Member, Unique}
-use Rattle.names.specs.Names.{Bytes, all, onto, pieces, validPath, elementsOf, pathElement, nameElement}
-use Rattle.names.specs.Faults.{Breaks, separates, spells, several, good}
+use Rattle.names.specs.declared.grammar.Alphabet.the-variants.{Path, Name, Member, WellKnown, Unique}
+use Rattle.names.specs.declared.grammar.Invalid.{Invalid}
+use Rattle.names.specs.Names.{Bytes, valid, all, onto, pieces, dot, short, dotted, rooted, elementsOf, pathElement, nameElement, busElement, uniqueElement}
+use Rattle.names.specs.Faults.{Breaks, separates, spells, several, good, fits, Refusal}
 use Rattle.names.specs.Scan.{led}
+use Rattle.names.proofs.Bools.{and-true, and-false}
+use Rattle.names.specs.Buses.{colonFirst, busAlphabet}
 
 -- `outer` is L and then `inner`
 pub record Led (L : ℕ) (inner outer : Bytes → Bool) : Type 0 where
@@ -47,7 +50,7 @@ breaks-same {g} {h} {s} {at} e b =
       bad = sym (e s) ∙ b .bad;
       within = b .within;
       begins = (b .begins .0, sym (e _) ∙ b .begins .1);
-      ends = λ lt rest. sym (e _) ∙ b .ends lt rest
+      ends = λ lt rest. sym (e _) ∙ b .ends lt rest;
     }
 
 module _ {L : ℕ} {inner outer : Bytes → Bool} (l : Led L inner outer) where
@@ -63,7 +66,7 @@ module _ {L : ℕ} {inner outer : Bytes → Bool} (l : Led L inner outer) where
         bad = outer-led rest ∙ b .bad;
         within = omega (arith, b .within);
         begins = (b .begins .0, outer-led _ ∙ b .begins .1);
-        ends = λ lt more. ap (λ n. outer (take n (L ∷ rest) ++ more)) (add-one (suc at)) ∙ outer-led _ ∙ ap (λ n. inner (take n rest ++ more)) (sym (add-one at)) ∙ b .ends (omega arith) more
+        ends = λ lt more. ap (λ n. outer (take n (L ∷ rest) ++ more)) (add-one (suc at)) ∙ outer-led _ ∙ ap (λ n. inner (take n rest ++ more)) (sym (add-one at)) ∙ b .ends (omega arith) more;
       }
 
   pub breaks-led : (s rest : Bytes) (at : ℕ) → Some rest ≡ led L s → Breaks inner rest at → Breaks outer s (at + 1)
@@ -83,15 +86,14 @@ module _ {L : ℕ} {inner outer : Bytes → Bool} (l : Led L inner outer) where
         bad = unled-all s e;
         within = omega arith;
         begins = (L ∷ x, outer-led x ∙ h);
-        ends = λ lt more. unled s more e lt
+        ends = λ lt more. unled s more e lt;
       }
 
 -- the elements of a path, after its slash
 abbrev pub pathTail : Bytes → Bool
 pathTail rest = all pathElement (elementsOf (47 ∷ rest))
 
-pub path-led : Led 47 pathTail validPath
-unfolding validPath
+pub path-led : Led 47 pathTail rooted
 path-led = record { none = refl; some = λ b rest. refl; first = refl }
 
 tail-spells : (x : Bytes) → 0 < length x → pathTail x ≡ spells Path x
@@ -116,7 +118,7 @@ breaks-tail rest at h b =
       bad = tail-spells rest h ∙ b .bad;
       within = b .within;
       begins = (b .begins .0, spells-tail (take at rest ++ b .begins .0) (b .begins .1));
-      ends = λ lt more. tail-spells (take (at + 1) rest ++ more) (more-than-none at rest more lt) ∙ b .ends lt more
+      ends = λ lt more. tail-spells (take (at + 1) rest ++ more) (more-than-none at rest more lt) ∙ b .ends lt more;
     }
 
 pub unique-led : Led 58 (several Unique) (good Unique)
@@ -126,10 +128,6 @@ unique-led = record { none = refl; some = λ b rest. refl; first = refl }
 one-piece : (x : Bytes) → pieces (separates Member) x ≡ x ∷ []
 one-piece [] = refl
 one-piece (b ∷ x) = ap (onto b) (one-piece x)
-
-and-true : (b : Bool) → b && true ≡ b
-and-true true = refl
-and-true false = refl
 
 pub member-spells : (x : Bytes) → spells Member x ≡ good Member x
 member-spells x = ap (all nameElement) (one-piece x) ∙ and-true (nameElement x)
@@ -145,3 +143,34 @@ found-member s (Some at) b = breaks-same member-spells b
 
 pub member-found : (a : Alphabet) (s : Bytes) (o : Option ℕ) → a ≡ Member → BySome o (spells a s ≡ true) (λ at. Breaks (spells a) s at) → BySome o (good a s ≡ true) (λ at. Breaks (good a) s at)
 member-found a s o e h = rw e (found-member s o (rw e at h))
+
+-- a name by its number of bytes and the rest of its rule
+pub valid-parts : (a : Alphabet) (s : Bytes) → valid a s ≡ fits a s && good a s
+unfolding valid
+valid-parts Path s = refl
+valid-parts Name s = refl
+valid-parts Member s = refl
+valid-parts WellKnown s = refl
+valid-parts Unique s = refl
+
+-- a bus name is of one kind: that of its first byte
+pub no-colon : (s : Bytes) → colonFirst s ≡ false → valid Unique s ≡ false
+unfolding valid
+no-colon [] e = refl
+no-colon (b ∷ s) e = ap (λ t. short (b ∷ s) && (t && dotted uniqueElement s)) e ∙ and-false (short (b ∷ s))
+
+colon-piece : (ps : List Bytes) → all busElement (onto 58 ps) ≡ false
+colon-piece [] = refl
+colon-piece (p ∷ ps) = refl
+
+pub colon-known : (s : Bytes) → colonFirst s ≡ true → valid WellKnown s ≡ false
+unfolding valid
+colon-known [] e = absurd (false≢true e)
+colon-known (b ∷ s) e =
+    let is : b ≡ 58 = eqb-true b 58 e in
+    rw is (ap (λ t. short (58 ∷ s) && (leb 2 (length (onto 58 (pieces dot s))) && t)) (colon-piece (pieces dot s))
+    ∙ ap (λ t. short (58 ∷ s) && t) (and-false (leb 2 (length (onto 58 (pieces dot s)))))
+    ∙ and-false (short (58 ∷ s)))
+
+pub refused-as : (s : Bytes) (e : Invalid) (t : Bool) → colonFirst s ≡ t → Refusal (cond t Unique WellKnown) s e → Refusal (busAlphabet s) s e
+refused-as s e t h r = let P : Bool → Type 0 = λ u. Refusal (cond u Unique WellKnown) s e in subst P (sym h) r

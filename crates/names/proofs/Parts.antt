@@ -14,6 +14,7 @@ use Rattle.names.specs.declared.grammar.Alphabet.{Alphabet}
 use Rattle.names.specs.Names.{Bytes, all, onto, pieces, element}
 use Rattle.names.specs.Faults.{Breaks, separates, opens, goesOn, spells, several}
 use Rattle.names.specs.Scan.{step}
+use Rattle.names.proofs.Bools.{and-false}
 use Rattle.names.proofs.Scans.{run, accepts, joined-run, spells-run, begun, run-end}
 
 module _ (sep : ℕ → Bool) where
@@ -63,10 +64,6 @@ module _ (a : Alphabet) where
       let g : spells a (p ++ (46 ∷ 97 ∷ [])) ≡ true = joined-run a p s (46 ∷ 97 ∷ []) ∙ ap (accepts a) (gone-on (separates a 46) _ d) in
       rw (le-leb 2 _ (parted (separates a) p 46 (97 ∷ []) d)) g
 
-  and-false : (b : Bool) → b && false ≡ false
-  and-false true = refl
-  and-false false = refl
-
   fewer : (bs : Bytes) → spells a bs ≡ false → several a bs ≡ false
   fewer bs e = ap (λ t. leb 2 (length (pieces (separates a) bs)) && t) e ∙ and-false (leb 2 (length (pieces (separates a) bs)))
 
@@ -80,7 +77,7 @@ module _ (a : Alphabet) where
         bad = fewer s (b .bad);
         within = b .within;
         begins = more-wanted s at d (b .begins .0) (b .begins .1);
-        ends = λ lt rest. fewer (take (at + 1) s ++ rest) (b .ends lt rest)
+        ends = λ lt rest. fewer (take (at + 1) s ++ rest) (b .ends lt rest);
       }
 
   -- one element wants another
@@ -90,5 +87,5 @@ module _ (a : Alphabet) where
         bad = rw (sym f);
         within = omega arith;
         begins = (46 ∷ 97 ∷ [], rw take-length (spells-more s d e));
-        ends = λ lt rest. absurd (omega arith)
+        ends = λ lt rest. absurd (omega arith);
       }

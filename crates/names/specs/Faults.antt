@@ -12,7 +12,7 @@ use Rattle.names.specs.declared.grammar.Alphabet.the-variants.{Path, Name, Mem
 use Rattle.names.specs.declared.grammar.Reason.{Reason}
 use Rattle.names.specs.declared.grammar.Reason.the-variants.{TooLong, Unfinished, Expected, EmptyElement, LeadingDigit, Forbidden}
 use Rattle.names.specs.declared.grammar.Invalid.{Invalid}
-use Rattle.names.specs.Names.{Bytes, all, pieces, element, slash, dot, letter, word, digit, hyphen, short, dotted, coloned, validPath, nameElement, busElement, uniqueElement}
+use Rattle.names.specs.Names.{Bytes, all, pieces, element, slash, dot, letter, word, digit, hyphen, short, dotted, coloned, rooted, nameElement, busElement, uniqueElement}
 
 -- The bytes s are not good, and `at` is the place of the fault: the bytes before it begin something good,
 -- and with the one that stands there they begin nothing good. At the end of s, only more bytes are wanting.
@@ -54,7 +54,7 @@ several a bs = leb 2 (length (pieces (separates a) bs)) && spells a bs
 
 -- what each kind of name is, whatever its length
 abbrev pub good : Alphabet → Bytes → Bool
-good Path = validPath
+good Path = rooted
 good Name = dotted nameElement
 good Member = nameElement
 good WellKnown = dotted busElement
@@ -67,10 +67,6 @@ fits Name bs = short bs
 fits Member bs = short bs
 fits WellKnown bs = short bs
 fits Unique bs = short bs
-
--- what each kind of name is
-abbrev pub accepted : Alphabet → Bytes → Bool
-accepted a bs = fits a bs && good a bs
 
 -- the byte that must come first
 abbrev pub lead : Alphabet → Option ℕ

@@ -3,3 +3,4 @@ pub mod Faults
 pub mod Scan
 pub mod Paths
 pub mod Standard
+pub mod Buses

@@ -5,6 +5,8 @@ use mathlib.Core.List.{List, [], _∷_}
 use Prim.Native.Nat.{ℕ}
 use lib.Dec.{eqb, leb}
 use lib.ListN.{length}
+use Rattle.names.specs.declared.grammar.Alphabet.{Alphabet}
+use Rattle.names.specs.declared.grammar.Alphabet.the-variants.{Path, Name, Member, WellKnown, Unique}
 
 abbrev pub Bytes : Type 0
 Bytes = List ℕ
@@ -73,10 +75,10 @@ elementsOf [] = []
 elementsOf (b ∷ []) = []
 elementsOf (b ∷ c ∷ bs) = pieces slash (c ∷ bs)
 
--- a slash, and elements between slashes; of any length
-unfoldable pub validPath : Bytes → Bool
-validPath [] = false
-validPath (b ∷ bs) = eqb b 47 && all pathElement (elementsOf (b ∷ bs))
+-- a slash, and elements between slashes
+abbrev pub rooted : Bytes → Bool
+rooted [] = false
+rooted (b ∷ bs) = eqb b 47 && all pathElement (elementsOf (b ∷ bs))
 
 -- two or more elements between dots
 abbrev pub dotted : (Bytes → Bool) → Bytes → Bool
@@ -91,22 +93,33 @@ coloned good (b ∷ bs) = eqb b 58 && dotted good bs
 abbrev pub short : Bytes → Bool
 short bs = leb (length bs) 255
 
-unfoldable pub validInterface : Bytes → Bool
-validInterface bs = short bs && dotted nameElement bs
+-- What each kind of name is. "The path may be of any length."
+unfoldable pub valid : Alphabet → Bytes → Bool
+valid Path bs = rooted bs
+valid Name bs = short bs && dotted nameElement bs
+valid Member bs = short bs && nameElement bs
+valid WellKnown bs = short bs && dotted busElement bs
+valid Unique bs = short bs && coloned uniqueElement bs
+
+abbrev pub validPath : Bytes → Bool
+validPath = valid Path
+
+abbrev pub validInterface : Bytes → Bool
+validInterface = valid Name
 
 -- "Error names have the same restrictions as interface names."
-unfoldable pub validError : Bytes → Bool
-validError bs = validInterface bs
+abbrev pub validError : Bytes → Bool
+validError = valid Name
 
-unfoldable pub validMember : Bytes → Bool
-validMember bs = short bs && nameElement bs
+abbrev pub validMember : Bytes → Bool
+validMember = valid Member
 
--- "Bus names that start with a colon character are unique connection names."
-unfoldable pub validUnique : Bytes → Bool
-validUnique bs = short bs && coloned uniqueElement bs
+-- "Bus names that start with a colon character are unique connection names. Other bus names are called well-known bus names."
+abbrev pub validUnique : Bytes → Bool
+validUnique = valid Unique
 
-unfoldable pub validWellKnown : Bytes → Bool
-validWellKnown bs = short bs && dotted busElement bs
+abbrev pub validWellKnown : Bytes → Bool
+validWellKnown = valid WellKnown
 
-unfoldable pub validBus : Bytes → Bool
+abbrev pub validBus : Bytes → Bool
 validBus bs = validUnique bs || validWellKnown bs

@@ -1,12 +1,13 @@
 ghost use mathlib.Core.Path.{_≡_};
 ghost use mathlib.Core.Bool.{Bool, true, false, cond};
-ghost use Rattle.std.specs.Results.{Cases as ByOk};
+ghost use Rattle.std.specs.Results.{isOk};
+ghost use Rattle.std.specs.Vec.{refused};
 ghost use Rattle.std.specs.Options.{Cases as BySome, mapped};
 ghost use lib.Dec.{leb};
 ghost use lib.ListN.{length};
-ghost use Rattle.names.specs.Names.{letter, digit, word, hyphen, pieces};
+ghost use Rattle.names.specs.Names.{letter, digit, word, hyphen, pieces, valid};
 ghost use Rattle.names.specs.Scan.{step, led};
-ghost use Rattle.names.specs.Faults.{Breaks, separates, opens, goesOn, spells, several, good, fits, accepted, reasonAt, Refusal};
+ghost use Rattle.names.specs.Faults.{Breaks, separates, opens, goesOn, spells, several, good, fits, reasonAt, Refusal};
 
 // What the elements of a kind of name are made of, and what separates them.
 #[derive(Clone, Copy)]
@@ -99,7 +100,11 @@ impl Alphabet {
     {
         if self.separates(b) {
             if fresh { None } else { Some(true) }
-        } else if if fresh { self.opens(b) } else { self.goes_on(b) } {
+        } else if if fresh {
+            self.opens(b)
+        } else {
+            self.goes_on(b)
+        } {
             Some(false)
         } else {
             None
@@ -139,9 +144,7 @@ impl Alphabet {
     {
         match self.fault(s) {
             Some(at) => Some(at),
-            None => {
-                if self.parts(s) { None } else { Some(s.len()) }
-            }
+            None => { if self.parts(s) { None } else { Some(s.len()) } }
         }
     }
 
@@ -195,14 +198,21 @@ impl Alphabet {
 
     // Refuses what is no name of its kind, with the place and the reason.
     pub fn check(self, s: &[u8]) -> Result<(), Invalid>
-        ensures { λ r. ⌜ ByOk r (λ _. accepted self (now (s .entry)) ≡ true) (λ e. Refusal self (now (s .entry)) e) ⌝ }
+        ensures answer { λ r. ⌜ isOk r ≡ valid self (now (s .entry)) ⌝ }
+        ensures fault { λ r. ⌜ refused r (λ e. Refusal self (now (s .entry)) e) ⌝ }
     {
         if !self.fits(s) {
-            return Err(Invalid { place: 255, why: Reason::TooLong });
+            return Err(Invalid {
+                place: 255,
+                why: Reason::TooLong,
+            });
         }
         match self.flaw(s) {
             None => Ok(()),
-            Some(place) => Err(Invalid { place, why: self.reason(s, place) }),
+            Some(place) => Err(Invalid {
+                place,
+                why: self.reason(s, place),
+            }),
         }
     }
 }

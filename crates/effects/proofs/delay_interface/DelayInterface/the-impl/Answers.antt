@@ -5,7 +5,7 @@ use lib.Chars.{codes}
 use lib.Dec.{ltb}
 use native.Mathlib.Omega.{arith}
 use Rattle.std.proofs.shelf.Tests.{lt-ltb}
-use Rattle.names.specs.Names.{validInterface, validMember, validError}
+use Rattle.names.specs.Names.{valid}
 use Rattle.names.specs.Paths.{bytesBefore}
 use Rattle.names.specs.Standard.{isStandard, standardName}
 use Rattle.effects.specs.Model.{wellFormed, validReply, failed, succeeded}
@@ -13,12 +13,12 @@ use Rattle.effects.proofs.Fits.{truth-fits, count-fits, text-fits, text-valid}
 use Rattle.effects.proofs.delay_interface.DelayInterface.the-impl.Needs as need
 
 checks : (hot : Bool) → validReply (cond hot (failed (codes "com.example.Pedal.Error.TooHot")) succeeded) ≡ true
-unfolding validInterface validError
+unfolding valid
 checks true = refl
 checks false = refl
 
 pub well-law : need.well-law
-unfolding wellFormed validInterface validMember validError bytesBefore isStandard standardName
+unfolding wellFormed valid bytesBefore isStandard standardName
 well-law x =
     let limit = x .limit in
     let bypassed = truth-fits (x .bypassed) in

@@ -6,7 +6,7 @@ use lib.Signed.{leZ, _≤ℤ_}
 use native.Mathlib.Omega.{arith}
 use Rattle.std.proofs.shelf.Signed.{ints}
 use Rattle.std.proofs.shelf.Tests.{lt-ltb}
-use Rattle.names.specs.Names.{validInterface, validMember, validError}
+use Rattle.names.specs.Names.{valid}
 use Rattle.names.specs.Paths.{bytesBefore}
 use Rattle.names.specs.Standard.{isStandard, standardName}
 use Rattle.effects.specs.Model.{wellFormed}
@@ -15,7 +15,7 @@ use Rattle.effects.proofs.Fits.{truth-fits, whole-fits, whole-held}
 use Rattle.effects.proofs.tuner_interface.TunerInterface.the-impl.Needs as need
 
 pub well-law : need.well-law
-unfolding wellFormed validInterface validMember validError bytesBefore isStandard standardName
+unfolding wellFormed valid bytesBefore isStandard standardName
 well-law x =
     let plug = x .plug in
     let cents = whole-fits (negsuc 49) (pos 50) (x .cents) (x .low) (x .high) in
