@@ -199,3 +199,49 @@ impl<'a> Outbox<'a> {
         Ok(())
     }
 }
+
+#[cfg(test)]
+mod tests {
+    use super::*;
+    use std::test::*;
+
+    // The second message fits exactly; a third does not, and changes nothing.
+    #[test]
+    fn whole_messages() -> Result<(), Fail> {
+        let mut bytes = [9u8; 5];
+        let mut outbox = Outbox::new(&mut bytes);
+        check(outbox.send(&Raw(b"abc")).is_ok())?;
+        check(outbox.send(&Raw(b"def")).is_err())?;
+        check_eq(outbox.len(), 3)?;
+        check_eq(outbox.serial(), 2)?;
+        check_eq(outbox.left(), 2)?;
+        check(outbox.send(&Raw(b"gh")).is_ok())?;
+        check(outbox.written() == b"abcgh")?;
+        check(outbox.send(&Raw(b"i")).is_err())?;
+        check_eq(outbox.serial(), 3)?;
+        outbox.clear();
+        check_eq(outbox.len(), 0)?;
+        check_eq(outbox.serial(), 3)
+    }
+
+    // The last serial of 32 bits, and then 1.
+    #[test]
+    fn serials_go_round() -> Result<(), Fail> {
+        let mut bytes = [9u8; 8];
+        let mut mark = Mark { fill: 0, serial: u32::MAX };
+        let mut draft = Draft::begin(&mut mark);
+        check_eq(draft.serial(), u32::MAX)?;
+        check(draft.put(&mut bytes, &Raw(b"ab")).is_ok())?;
+        check_eq(draft.len(), 2)?;
+        draft.keep();
+        check_eq(mark.serial, 1)?;
+        check_eq(mark.fill, 2)?;
+        {
+            let mut draft = Draft::begin(&mut mark);
+            check(draft.put(&mut bytes, &Raw(b"cde")).is_ok())?;
+            check_eq(draft.len(), 3)?;
+        }
+        check_eq(mark.serial, 1)?;
+        check_eq(mark.fill, 2)
+    }
+}
