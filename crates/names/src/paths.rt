@@ -6,6 +6,11 @@ ghost use Rattle.names.specs.Names.{elementsOf, validPath, pieces, slash};
 ghost use Rattle.names.specs.Paths.{beneath, bytesBefore, pathBefore, parentOf, lastOf, stem, following, deeper, isBeneath, parentBytes, lastBytes, fewAndShort, makeable, PreOrder, NoSlash, LastSlash};
 use super::same;
 
+// The limits of a path that the server makes: bytes in all, elements, bytes in an element.
+const MAX_PATH: usize = 255;
+const MAX_ELEMENTS: usize = 16;
+const MAX_ELEMENT: usize = 63;
+
 // A path without the slash that stands alone for "/".
 fn stem(path: &[u8]) -> &[u8]
     ensures { λ r. ⌜ now r ≡ stem (now (path .entry)) ⌝ }
@@ -115,13 +120,13 @@ fn elements_fit(s: &[u8]) -> bool
     let mut len: usize = 0;
     for b in s {
         if *b == b'/' {
-            if count >= 16 {
+            if count >= MAX_ELEMENTS {
                 return false;
             }
             count += 1;
             len = 0;
         } else {
-            if len >= 63 {
+            if len >= MAX_ELEMENT {
                 return false;
             }
             len += 1;
@@ -134,7 +139,7 @@ fn elements_fit(s: &[u8]) -> bool
 pub fn is_makeable(path: &[u8]) -> bool
     ensures { λ r. ⌜ r ≡ makeable (now (path .entry)) ⌝ }
 {
-    if path.len() > 255 {
+    if path.len() > MAX_PATH {
         return false;
     }
     path.len() <= 1 || elements_fit(&path[1..])

@@ -7,9 +7,9 @@ use lib.ListN.{length, take, drop, length-append}
 use Rattle.std.proofs.shelf.Lists.{drop-at, drop-drop, length-take-le, take-at}
 use Rattle.std.specs.declared.result.Result.{Result}
 use Rattle.std.specs.declared.result.Result.the-variants.{Ok, Err}
-use Rattle.wire.specs.declared.codes.Code.{Code}
-use Rattle.wire.specs.declared.codes.Code.the-variants.{Array}
-use Rattle.wire.specs.Codes.{alignOf}
+use Rattle.signature.specs.declared.codes.Code.{Code}
+use Rattle.signature.specs.declared.codes.Code.the-variants.{Array}
+use Rattle.signature.specs.Codes.{alignOf}
 use Rattle.wire.specs.Reading.{gap}
 use Rattle.outbox.specs.Marshal.{Bytes, Part, _▹_, array, contentsAt, le32, openArray, pad, putWord, raw}
 use Rattle.outbox.specs.Pours.{Closed, Poured, Wrote, room, written}

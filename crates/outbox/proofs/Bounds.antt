@@ -5,8 +5,8 @@ use native.Mathlib.Nat.{mul-suc}
 use native.Mathlib.Omega.{arith}
 use lib.ListN.{length}
 use Rattle.std.specs.shelf.Lists.{All}
-use Rattle.wire.specs.declared.codes.Code.{Code}
-use Rattle.wire.specs.declared.codes.Code.the-variants.{Array}
+use Rattle.signature.specs.declared.codes.Code.{Code}
+use Rattle.signature.specs.declared.codes.Code.the-variants.{Array}
 use Rattle.outbox.specs.Marshal.{Bytes, Part, _▹_, array, contentsAt, many, pad, putSignature, putText, putWord, raw}
 use Rattle.outbox.proofs.Arrays.{contents-at}
 use Rattle.outbox.proofs.Lengths.{gap-lt, length-▹, length-array, length-pad, length-signature, length-text, length-word, pad-short}

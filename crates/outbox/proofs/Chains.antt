@@ -12,10 +12,10 @@ use Rattle.std.proofs.shelf.Lists.{length-take-le, take-at, drop-at, take-take,
 use Rattle.std.proofs.shelf.Parts.{putMid-paste}
 use Rattle.std.specs.declared.result.Result.{Result}
 use Rattle.std.specs.declared.result.Result.the-variants.{Ok, Err}
-use Rattle.wire.specs.declared.codes.Code.{Code}
-use Rattle.wire.specs.Codes.{alignOf}
+use Rattle.signature.specs.declared.codes.Code.{Code}
+use Rattle.signature.specs.Codes.{alignOf}
 use Rattle.wire.specs.Reading.{gap}
-use Rattle.wire.proofs.Table.{align-small}
+use Rattle.signature.proofs.Table.{align-small}
 use Rattle.outbox.specs.Marshal.{Bytes, Part, _▹_, pad, raw}
 use Rattle.outbox.specs.Pours.{Kept, Poured, Refused, Wrote, room, written}
 use Rattle.outbox.proofs.Lengths.{gap-lt, length-▹}

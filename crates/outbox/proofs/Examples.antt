@@ -4,8 +4,8 @@ use mathlib.Core.List.{List, [], _∷_}
 use mathlib.Core.Path.{_≡_, refl}
 use lib.Chars.{codes}
 use lib.IntN.{negsuc}
-use Rattle.wire.specs.declared.codes.Code.the-variants.{DictEntry, String, Uint64}
-use Rattle.wire.specs.Codes.{alignOf}
+use Rattle.signature.specs.declared.codes.Code.the-variants.{DictEntry, String, Uint64}
+use Rattle.signature.specs.Codes.{alignOf}
 use Rattle.wire.specs.Reading.{gap}
 use Rattle.outbox.specs.Marshal.{Bytes, Part, _▹_, array, contentsAt, ended, entry, le32, many, openArray, pad, putBool, putI32, putPath, putSignature, putString, putText, putU32, putWord, raw, variant}
 

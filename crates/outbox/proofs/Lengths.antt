@@ -5,11 +5,11 @@ use Prim.Native.Nat.{ℕ, _+_, _≤_, _<_}
 use native.Mathlib.Nat.{mod-lt}
 use native.Mathlib.Omega.{arith}
 use lib.ListN.{length, length-append, length-replicate}
-use Rattle.wire.specs.declared.codes.Code.{Code}
-use Rattle.wire.specs.declared.codes.Code.the-variants.{Array}
-use Rattle.wire.specs.Codes.{alignOf}
+use Rattle.signature.specs.declared.codes.Code.{Code}
+use Rattle.signature.specs.declared.codes.Code.the-variants.{Array}
+use Rattle.signature.specs.Codes.{alignOf}
 use Rattle.wire.specs.Reading.{gap}
-use Rattle.wire.proofs.Table.{align-small}
+use Rattle.signature.proofs.Table.{align-small}
 use Rattle.outbox.specs.Marshal.{Bytes, Part, _▹_, array, contentsAt, ended, le32, openArray, pad, putSignature, putText, putWord, raw}
 
 pub length-▹ : (v w : Part) (off : ℕ) → length ((v ▹ w) off) ≡ length (v off) + length (w (off + length (v off)))

@@ -13,13 +13,13 @@ use Rattle.std.proofs.shelf.Tests.{cond-true, eq-eqb, le-leb, lt-ltb}
 use Rattle.std.specs.declared.result.Result.{Result}
 use Rattle.std.specs.declared.result.Result.the-variants.{Ok, Err}
 use Rattle.names.specs.Names.{all, validPath}
-use Rattle.wire.specs.declared.codes.Code.{Code}
-use Rattle.wire.specs.declared.codes.Code.the-variants.{Array, Boolean, Uint32, String, ObjectPath}
+use Rattle.signature.specs.declared.codes.Code.{Code}
+use Rattle.signature.specs.declared.codes.Code.the-variants.{Array, Boolean, Uint32, String, ObjectPath}
 use Rattle.wire.specs.declared.reading.ByteOrder.the-variants.{Little}
 use Rattle.wire.specs.declared.reading.Fault.{Fault}
-use Rattle.wire.specs.Codes.{alignOf}
+use Rattle.signature.specs.Codes.{alignOf}
 use Rattle.wire.specs.Reading.{alignAt, andThen, boolAt, byteAt, bytesAt, endedAt, fixedAt, gap, part, pathAt, signatureAt, stringAt, textAt, u32At, wordOf}
-use Rattle.wire.specs.Signatures.{validSignature}
+use Rattle.signature.specs.Signatures.{validSignature}
 use Rattle.wire.specs.Text.{validText, zero?}
 use Rattle.wire.proofs.Read.{goes}
 use Rattle.outbox.specs.Marshal.{Bytes, Part, _▹_, array, contentsAt, ended, le32, pad, putBool, putPath, putSignature, putString, putText, putU32, putWord, raw}

@@ -6,9 +6,9 @@ use lib.IntN.{ℤ}
 use lib.ListN.{length, replicate}
 use mir.Syntax.{w32}
 use mir.Val.{ofZ}
-use Rattle.wire.specs.declared.codes.Code.{Code}
-use Rattle.wire.specs.declared.codes.Code.the-variants.{Boolean, Int32, Uint32, String, ObjectPath, Array, Structure, DictEntry}
-use Rattle.wire.specs.Codes.{alignOf}
+use Rattle.signature.specs.declared.codes.Code.{Code}
+use Rattle.signature.specs.declared.codes.Code.the-variants.{Boolean, Int32, Uint32, String, ObjectPath, Array, Structure, DictEntry}
+use Rattle.signature.specs.Codes.{alignOf}
 use Rattle.wire.specs.Reading.{gap}
 
 abbrev pub Bytes : Type 0

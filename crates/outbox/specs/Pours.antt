@@ -5,8 +5,8 @@ use Prim.Native.Nat.{ℕ, _+_, _-_, _≤_, _<_, min}
 use lib.ListN.{length, take, drop}
 use Rattle.std.specs.Results.{Cases}
 use Rattle.std.specs.declared.result.Result.{Result}
-use Rattle.wire.specs.declared.codes.Code.{Code}
-use Rattle.wire.specs.declared.codes.Code.the-variants.{Array}
+use Rattle.signature.specs.declared.codes.Code.{Code}
+use Rattle.signature.specs.declared.codes.Code.the-variants.{Array}
 use Rattle.outbox.specs.Marshal.{Bytes, Part, contentsAt, le32, pad}
 
 -- "Arrays have a maximum length defined to be 2 to the 26th power", and messages one of 2 to the 27th: what ends here passes neither.

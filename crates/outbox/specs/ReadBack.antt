@@ -10,10 +10,10 @@ use Rattle.std.specs.declared.result.Result.the-variants.{Ok}
 use Rattle.names.specs.Names.{validPath}
 use Rattle.wire.specs.declared.reading.ByteOrder.the-variants.{Little}
 use Rattle.wire.specs.declared.reading.Fault.{Fault}
-use Rattle.wire.specs.declared.codes.Code.{Code}
-use Rattle.wire.specs.Codes.{alignOf}
+use Rattle.signature.specs.declared.codes.Code.{Code}
+use Rattle.signature.specs.Codes.{alignOf}
 use Rattle.wire.specs.Reading.{alignAt, boolAt, part, pathAt, signatureAt, stringAt, u32At}
-use Rattle.wire.specs.Signatures.{validSignature}
+use Rattle.signature.specs.Signatures.{validSignature}
 use Rattle.wire.specs.Text.{validText}
 use Rattle.outbox.specs.Marshal.{Bytes, Part, _▹_, array, contentsAt, pad, putBool, putPath, putSignature, putString, putU32}
 

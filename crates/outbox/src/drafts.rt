@@ -2,7 +2,7 @@
 ghost use denote.Ref.{name};
 ghost use lib.ListN.{drop, length, take};
 ghost use mathlib.Core.Path.{_≡_};
-ghost use Prim.Native.Nat.{_-_};
+ghost use Prim.Native.Nat.{min};
 ghost use Rattle.outbox.specs.Drafts.{Grew, Sent, Went, drafted, following, fresh, kept, left};
 ghost use Rattle.outbox.specs.Marshal.{Part, le32, raw};
 ghost use Rattle.outbox.specs.Pours.{Patched, Poured};
@@ -77,11 +77,11 @@ impl<'a> Draft<'a> {
         self.mark.serial
     }
 
-    // Where in the bytes the message begins.
-    pub fn start(&self) -> usize
-        ensures { λ r. ⌜ r ≡ now (self .entry) .start ⌝ }
+    // Where in the bytes the message begins; their end, if they do not go so far.
+    pub fn start(&self, bytes: &[u8]) -> usize
+        ensures { λ r. ⌜ r ≡ min (now (self .entry) .start) (length (now (bytes .entry))) ⌝ }
     {
-        self.start
+        self.start.min(bytes.len())
     }
 
     // How much of the message there is.
@@ -96,8 +96,8 @@ impl<'a> Draft<'a> {
         ensures { λ r. ⌜ Went (now (self .entry)) (now (bytes .entry)) (now (self .exit)) (now (bytes .exit)) r (part (now (value .entry))) ⌝ }
     {
         let at = self.len();
+        let from = self.start(bytes);
         let end = bytes.len();
-        let from = self.start.min(end);
         let len = value.marshal(&mut bytes[from..end], at)?;
         self.mark.fill = self.start + len;
         Ok(())
@@ -120,8 +120,8 @@ impl<'a> Draft<'a> {
         ensures below { λ _. ⌜ take (now (self .entry) .start) (now (bytes .exit)) ≡ take (now (self .entry) .start) (now (bytes .entry)) ⌝ }
         ensures size { λ _. ⌜ length (now (bytes .exit)) ≡ length (now (bytes .entry)) ⌝ }
     {
+        let from = self.start(bytes);
         let end = bytes.len();
-        let from = self.start.min(end);
         patch_u32(&mut bytes[from..end], at, n)
     }
 

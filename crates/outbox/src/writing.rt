@@ -13,11 +13,11 @@ ghost use mir.Val.{ofZ};
 ghost use Rattle.names.specs.Names.{validPath};
 ghost use Rattle.outbox.specs.ReadBack.{EveryReadsBack, ReadsBack};
 ghost use Rattle.wire.specs.declared.reading.ByteOrder.the-variants.{Little};
-ghost use Rattle.wire.specs.Signatures.{validSignature};
+ghost use Rattle.signature.specs.Signatures.{validSignature};
 ghost use Rattle.wire.specs.Text.{validText};
-ghost use Rattle.wire.specs.Codes.{alignOf};
+ghost use Rattle.signature.specs.Codes.{alignOf};
 ghost use Rattle.wire.specs.Reading.{boolAt, gap, pathAt, signatureAt, stringAt, u32At};
-use wire::codes::Code;
+use signature::codes::Code;
 
 // There is no room for what was to be written, or no message may have so much.
 #[derive(Clone, Copy, Debug, PartialEq, Eq)]

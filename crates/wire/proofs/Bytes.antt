@@ -1,6 +1,6 @@
 -- A test of each byte, turn by turn; UTF-8 as a test.
 use mathlib.Core.Path.{_≡_, sym, ap, _∙_}
-use mathlib.Core.Bool.{Bool, true, false, cond, _&&_}
+use mathlib.Core.Bool.{Bool, true, false, _&&_}
 use mathlib.Core.List.{List}
 use mathlib.Core.Logic.{⊎-elim}
 use Prim.Native.Nat.{ℕ, _+_, _<_, _≤_}
@@ -33,9 +33,10 @@ module _ (f : ℕ → Bool) (bs : List ℕ) (i : ℕ) where
 
 pub utf8-decides : (bs : List ℕ) → Decides (utf8 bs) (Utf8 bs)
 unfolding utf8
-utf8-decides bs =
-    (λ e. let p = and-parts (scalars (decodes bs)) (sameBytes (encodes (decodes bs)) bs) e in (decodes bs, (p .0, sameBytes-decides (encodes (decodes bs)) bs .0 (p .1))),
-     λ u. and-from _ _ (scalars-decodes bs u) (sameBytes-decides (encodes (decodes bs)) bs .1 (encodes-decodes bs u)))
+utf8-decides bs = (
+  λ e. let p = and-parts (scalars (decodes bs)) (sameBytes (encodes (decodes bs)) bs) e in (decodes bs, (p .0, sameBytes-decides (encodes (decodes bs)) bs .0 (p .1))),
+  λ u. and-from _ _ (scalars-decodes bs u) (sameBytes-decides (encodes (decodes bs)) bs .1 (encodes-decodes bs u)),
+)
 
 pub utf8-true : (bs : List ℕ) → Utf8 bs → true ≡ utf8 bs
 utf8-true bs u = sym (utf8-decides bs .1 u)

@@ -1,5 +1,3 @@
-pub mod Runs
-pub mod Table
-pub mod Types
 pub mod Bytes
+pub mod Laws
 pub mod Read

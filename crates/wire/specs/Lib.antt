@@ -1,6 +1,2 @@
-pub mod Codes
-pub mod Depth
-pub mod Repeat
-pub mod Signatures
 pub mod Text
 pub mod Reading

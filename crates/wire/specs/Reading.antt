@@ -1,6 +1,6 @@
 -- Values in a message: the D-Bus Specification, sections "Byte order and alignment" and "Marshalling basic types".
 -- Each is read at a place, and gives the value and the place after it, or a fault with its place.
-use mathlib.Core.Bool.{Bool, true, false, cond}
+use mathlib.Core.Bool.{Bool, cond}
 use mathlib.Core.List.{List}
 use Prim.Native.Nat.{ℕ, _+_, _-_, _*_, _%_, _≤_}
 use denote.Ref.{RefT}
@@ -16,7 +16,7 @@ use Rattle.wire.specs.declared.reading.Fault.{Fault}
 use Rattle.wire.specs.declared.reading.Fault.the-variants.{Short, Padding, Boolean, Unterminated, Text, Path, Signature}
 use Rattle.wire.specs.declared.reading.StringLike.{StringLike}
 use Rattle.wire.specs.declared.reading.StringLike.the-variants.{OfString, OfPath, OfSignature}
-use Rattle.wire.specs.Signatures.{validSignature}
+use Rattle.signature.specs.Signatures.{validSignature}
 use Rattle.wire.specs.Text.{validText, zero?}
 
 abbrev pub andThen : {A B : Type 0} → Result A Fault → (A → Result B Fault) → Result B Fault

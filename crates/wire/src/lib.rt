@@ -1,6 +1,3 @@
-// Type codes, signatures, and reading values from a message in either byte order.
-pub mod codes;
-pub mod levels;
+// Reading values from a message in either byte order.
 pub mod reading;
-pub mod signatures;
-pub mod text;
+mod text;

@@ -2,13 +2,13 @@
 ghost use mathlib.Core.Path.{_≡_};
 ghost use Prim.Native.Nat.{_+_, _≤_, _<_};
 ghost use lib.ListN.{length};
-ghost use Rattle.wire.specs.Codes.{alignOf};
+ghost use Rattle.signature.specs.Codes.{alignOf};
 ghost use Rattle.wire.specs.Reading.{Onward, Grown, Past, alignAt, boolAt, byteAt, bytesAt, endedAt, faultFor, fixedAt, gap, pathAt, seen, signatureAt, stringAt, textAt, u32At, validFor, wordOf};
-use crate::codes::Code;
-use crate::signatures::is_signature;
 use crate::text::all_zero;
 use crate::text::is_path;
 use crate::text::is_text;
+use signature::codes::Code;
+use signature::is_signature;
 
 #[derive(Clone, Copy, Debug, PartialEq, Eq)]
 pub enum ByteOrder {
@@ -105,7 +105,12 @@ fn word(message: &[u8], order: ByteOrder, at: usize) -> u32
     requires { ⌜ at + 4 ≤ length (now message) ⌝ }
     ensures { λ r. ⌜ r ≡ wordOf order (now (message .entry)) at ⌝ }
 {
-    let bytes = [message[at], message[at + 1], message[at + 2], message[at + 3]];
+    let bytes = [
+        message[at],
+        message[at + 1],
+        message[at + 2],
+        message[at + 3],
+    ];
     match order {
         ByteOrder::Little => u32::from_le_bytes(bytes),
         ByteOrder::Big => u32::from_be_bytes(bytes),
@@ -169,7 +174,12 @@ fn read_ended(message: &[u8], at: usize, len: usize) -> Result<(&[u8], usize), F
 }
 
 // The same, with what the type asks of its text.
-fn read_text(message: &[u8], kind: StringLike, at: usize, len: usize) -> Result<(&[u8], usize), Fault>
+fn read_text(
+    message: &[u8],
+    kind: StringLike,
+    at: usize,
+    len: usize,
+) -> Result<(&[u8], usize), Fault>
     ensures value { λ r. ⌜ seen r ≡ textAt kind (now (message .entry)) (len, at) ⌝ }
     ensures within { λ r. ⌜ Past (now (message .entry)) at 1 r ⌝ }
 {

@@ -5,7 +5,7 @@ ghost use Rattle.wire.specs.Text.{nonzero, utf8, validText, zero?};
 use names::grammar::Alphabet;
 use std::str::from_utf8;
 
-pub fn all_zero(bytes: &[u8]) -> bool
+pub(crate) fn all_zero(bytes: &[u8]) -> bool
     ensures { λ r. ⌜ r ≡ all zero? (now (bytes .entry)) ⌝ }
 {
     for b in bytes {
@@ -28,7 +28,7 @@ fn no_zero(bytes: &[u8]) -> bool
 }
 
 // Whether these bytes are a string's: UTF-8 without U+0000.
-pub fn is_text(bytes: &[u8]) -> bool
+pub(crate) fn is_text(bytes: &[u8]) -> bool
     ensures { λ r. ⌜ r ≡ validText (now (bytes .entry)) ⌝ }
 {
     no_zero(bytes) && is_utf8(bytes)
@@ -43,7 +43,7 @@ fn is_utf8(bytes: &[u8]) -> bool
     }
 }
 
-pub fn is_path(bytes: &[u8]) -> bool
+pub(crate) fn is_path(bytes: &[u8]) -> bool
     ensures { λ r. ⌜ r ≡ validPath (now (bytes .entry)) ⌝ }
 {
     match Alphabet::Path.check(bytes) {

@@ -3,7 +3,7 @@ use Prim.Native.Nat.{_+_, _-_, _≤_, _<_}
 use native.Mathlib.Omega.{arith}
 use lib.ListN.{length}
 use Rattle.std.specs.declared.result.Result.the-variants.{Ok, Err}
-use Rattle.wire.specs.declared.codes.Code.the-variants.{Array}
+use Rattle.signature.specs.declared.codes.Code.the-variants.{Array}
 use Rattle.outbox.specs.declared.writing.Full.{Full}
 use Rattle.outbox.specs.Marshal.{contentsAt, le32, pad}
 use Rattle.outbox.specs.Pours.{Closed, room, written}

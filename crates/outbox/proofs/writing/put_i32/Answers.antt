@@ -4,8 +4,8 @@ use native.Mathlib.Omega.{arith}
 use borrow.Author.Needs.{needs}
 use mir.Syntax.{w32}
 use mir.Val.{ofZ}
-use Rattle.wire.specs.declared.codes.Code.the-variants.{Int32}
-use Rattle.wire.specs.Codes.{alignOf}
+use Rattle.signature.specs.declared.codes.Code.the-variants.{Int32}
+use Rattle.signature.specs.Codes.{alignOf}
 use Rattle.outbox.specs.Marshal.{putI32}
 use Rattle.outbox.specs.Pours.{Poured}
 use Rattle.outbox.proofs.ReadBack.{reads-back, word-reads}

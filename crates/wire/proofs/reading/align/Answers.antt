@@ -1,6 +1,6 @@
 use mathlib.Core.Path.{ap, _∙_}
 use Rattle.std.proofs.shelf.Results.{err-from-errBy}
-use Rattle.wire.specs.Codes.{alignOf}
+use Rattle.signature.specs.Codes.{alignOf}
 use Rattle.wire.specs.Reading.{gap}
 use Rattle.wire.proofs.Read.{align-bad, align-short, align-zero}
 use Rattle.wire.proofs.reading.align.Needs as need

@@ -1,6 +1,6 @@
 use mathlib.Core.Path.{ap, sym, _∙_}
 use Rattle.std.proofs.shelf.Results.{err-from-errBy}
-use Rattle.wire.specs.Codes.{alignOf}
+use Rattle.signature.specs.Codes.{alignOf}
 use Rattle.wire.specs.Reading.{bytesAt, fixedAt}
 use Rattle.wire.proofs.Read.{goes, grown, stops}
 use Rattle.wire.proofs.reading.fixed_end.Needs as need

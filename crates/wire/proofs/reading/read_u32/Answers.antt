@@ -2,7 +2,7 @@ use mathlib.Core.Path.{ap, sym, _∙_}
 use native.Mathlib.Omega.{arith}
 use Rattle.std.proofs.shelf.Results.{err-from-errBy}
 use Rattle.std.specs.declared.result.Result.the-variants.{Ok}
-use Rattle.wire.specs.Codes.{alignOf}
+use Rattle.signature.specs.Codes.{alignOf}
 use Rattle.wire.specs.Reading.{u32At}
 use Rattle.wire.proofs.Read.{goes, stops}
 use Rattle.wire.proofs.reading.read_u32.Needs as need

@@ -1,0 +1,4 @@
+pub mod Codes
+pub mod Depth
+pub mod Repeat
+pub mod Signatures
