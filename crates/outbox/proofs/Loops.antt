@@ -18,8 +18,8 @@ unfolding _▹_
 ▹-assoc u v w =
     fun-ext
     (λ off.
-      append-assoc (u off) (v (off + length (u off))) (w (off + length (u off ++ v (off + length (u off)))))
-      ∙ ap (λ n. u off ++ (v (off + length (u off)) ++ w n)) (ap (λ n. off + n) (length-append (u off) (v (off + length (u off)))) ∙ sym (add-assoc off (length (u off)) (length (v (off + length (u off)))))))
+    append-assoc (u off) (v (off + length (u off))) (w (off + length (u off ++ v (off + length (u off)))))
+    ∙ ap (λ n. u off ++ (v (off + length (u off)) ++ w n)) (ap (λ n. off + n) (length-append (u off) (v (off + length (u off)))) ∙ sym (add-assoc off (length (u off)) (length (v (off + length (u off)))))))
 
 ▹-nil : (v : Part) → v ▹ raw [] ≡ v
 unfolding _▹_
@@ -49,14 +49,14 @@ module _ {X Y : Type 0} (f : X → Part) (g : Y → X) (was between is : Bytes) 
   poured-more c p q =
       let k : take (i + 1) ys ≡ take i ys ++ y ∷ [] = take-more ys i y lt ∙ ap (λ z. take i ys ++ z ∷ []) (sym e) in
       let m : many f (map g (take i ys)) ▹ f (g y) ≡ many f (map g (take (i + 1) ys)) =
-        many-push f (map g (take i ys)) (g y) ∙ ap (many f) (sym (map-push g (take i ys) y)) ∙ ap (λ l. many f (map g l)) (sym k) in
+      many-push f (map g (take i ys)) (g y) ∙ ap (many f) (sym (map-push g (take i ys) y)) ∙ ap (λ l. many f (map g l)) (sym k) in
       rw (sym m) (poured-then was between is a b (Ok c) _ _ p q)
 
   -- a turn that is refused
   pub poured-stuck : {E F H : Type 0} (d : F) (h : H) → Poured {E = E} was a between (Ok b) (many f (map g (take i ys))) → Poured between b is (Err d) (f (g y)) → Poured was a is (Err h) (many f (map g ys))
   poured-stuck d h p q =
       let k : ys ≡ take i ys ++ y ∷ drop (i + 1) ys =
-        sym (take-append-drop i ys) ∙ ap (λ l. take i ys ++ l) (drop-more ys i y lt) ∙ ap (λ z. take i ys ++ z ∷ drop (i + 1) ys) (sym e) in
+      sym (take-append-drop i ys) ∙ ap (λ l. take i ys ++ l) (drop-more ys i y lt) ∙ ap (λ z. take i ys ++ z ∷ drop (i + 1) ys) (sym e) in
       let m : many f (map g (take i ys)) ▹ (f (g y) ▹ many f (map g (drop (i + 1) ys))) ≡ many f (map g ys) =
-        many-split f (map g (take i ys)) (g y) (map g (drop (i + 1) ys)) ∙ ap (many f) (sym (map-append g (take i ys) (y ∷ drop (i + 1) ys))) ∙ ap (λ l. many f (map g l)) (sym k) in
+      many-split f (map g (take i ys)) (g y) (map g (drop (i + 1) ys)) ∙ ap (many f) (sym (map-append g (take i ys) (y ∷ drop (i + 1) ys))) ∙ ap (λ l. many f (map g l)) (sym k) in
       rw (sym m) (poured-then was between is a b (Err h) _ _ p (poured-stops between is b d h (f (g y)) _ q))

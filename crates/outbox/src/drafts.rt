@@ -131,7 +131,11 @@ impl<'a> Draft<'a> {
         ensures serial { λ _. ⌜ now (self .exit .0) .serial ≡ following (now (self .entry .mark) .serial) ⌝ }
     {
         let Draft { mark, start: _ } = self;
-        mark.serial = if mark.serial == u32::MAX { 1 } else { mark.serial + 1 };
+        mark.serial = if mark.serial == u32::MAX {
+            1
+        } else {
+            mark.serial + 1
+        };
     }
 }
 
@@ -147,14 +151,17 @@ impl<'a> Outbox<'a> {
         ensures lent { λ r. ⌜ r .bytes ≡ bytes .entry ⌝ }
         ensures mark { λ r. ⌜ r .mark ≡ fresh ⌝ }
     {
-        Outbox { bytes, mark: Mark::new() }
+        Outbox {
+            bytes,
+            mark: Mark::new(),
+        }
     }
 
     // The messages, one after another.
     pub fn written(&self) -> &[u8]
         ensures { λ r. ⌜ now r ≡ kept (now (self .entry)) ⌝ }
     {
-        let end = self.mark.fill.min(self.bytes.len());
+        let end = self.bytes.len().min(self.mark.fill);
         &self.bytes[0..end]
     }
 
@@ -176,7 +183,8 @@ impl<'a> Outbox<'a> {
     pub fn serial(&self) -> u32
         ensures { λ r. ⌜ r ≡ now (self .entry) .mark .serial ⌝ }
     {
-        self.mark.serial
+        let mark = &self.mark;
+        mark.serial
     }
 
     // No messages any more; serials go on.
@@ -228,7 +236,10 @@ mod tests {
     #[test]
     fn serials_go_round() -> Result<(), Fail> {
         let mut bytes = [9u8; 8];
-        let mut mark = Mark { fill: 0, serial: u32::MAX };
+        let mut mark = Mark {
+            fill: 0,
+            serial: u32::MAX,
+        };
         let mut draft = Draft::begin(&mut mark);
         check_eq(draft.serial(), u32::MAX)?;
         check(draft.put(&mut bytes, &Raw(b"ab")).is_ok())?;

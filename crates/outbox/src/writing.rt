@@ -137,8 +137,7 @@ pub fn open_array(bytes: &mut [u8], from: usize, element: Code) -> Result<usize,
 // Wherever what was written stands in a message, it is read back.
 pub fn values_read_back()
     ensures { λ _. ⌜ EveryReadsBack ⌝ }
-{
-}
+{}
 
 // Overwrites the 32 bits at `at`, as a length that is known only later.
 pub fn patch_u32(bytes: &mut [u8], at: usize, n: u32) -> Result<(), Full>
@@ -203,7 +202,33 @@ mod tests {
         let at = put_string(&mut bytes, at, b"+")?;
         let at = put_string(&mut bytes, at, b"bar")?;
         check_eq(at, 24)?;
-        let expected = [3u8, 0, 0, 0, 102, 111, 111, 0, 1, 0, 0, 0, 43, 0, 0, 0, 3, 0, 0, 0, 98, 97, 114, 0, 9];
+        let expected = [
+            3u8,
+            0,
+            0,
+            0,
+            102,
+            111,
+            111,
+            0,
+            1,
+            0,
+            0,
+            0,
+            43,
+            0,
+            0,
+            0,
+            3,
+            0,
+            0,
+            0,
+            98,
+            97,
+            114,
+            0,
+            9,
+        ];
         check(bytes == expected)
     }
 
@@ -218,7 +243,33 @@ mod tests {
         let at = open_variant(&mut bytes, at, b'i')?;
         let at = put_i32(&mut bytes, at, -2)?;
         check_eq(close_array(&mut bytes, start, Code::DictEntry, at)?, 24)?;
-        let expected = [1u8, 0, 0, 0, 16, 0, 0, 0, 4, 0, 0, 0, 71, 97, 105, 110, 0, 1, 105, 0, 254, 255, 255, 255, 9];
+        let expected = [
+            1u8,
+            0,
+            0,
+            0,
+            16,
+            0,
+            0,
+            0,
+            4,
+            0,
+            0,
+            0,
+            71,
+            97,
+            105,
+            110,
+            0,
+            1,
+            105,
+            0,
+            254,
+            255,
+            255,
+            255,
+            9,
+        ];
         check(bytes == expected)
     }
 
