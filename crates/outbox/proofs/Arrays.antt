@@ -21,7 +21,7 @@ over : (h : ℕ) (p z b ys : Bytes) → length p ≡ h → length z ≡ length y
 over h p z b ys lp lz =
     let t = take-at p (z ++ b) h lp in
     let d : drop (h + length ys) (p ++ (z ++ b)) ≡ b =
-      sym (drop-drop (length ys) h (p ++ (z ++ b))) ∙ ap (drop (length ys)) (drop-at p (z ++ b) h lp) ∙ drop-at z b (length ys) lz in
+    sym (drop-drop (length ys) h (p ++ (z ++ b))) ∙ ap (drop (length ys)) (drop-at p (z ++ b) h lp) ∙ drop-at z b (length ys) lz in
     rw (t, d)
 
 -- the same of what was just written
@@ -81,10 +81,10 @@ module _ (was bytes is : Bytes) (s e : ℕ) (code : Code) (w : Part) (a : Wrote 
       let le : s ≤ length was = omega (arith, a .ends, a .fits) in
       record {
         bytes =
-          p ∙ ap (λ k. written bytes (s + length (pad Array s)) (le32 k)) n
-          ∙ ap (λ l. written l (s + length (pad Array s)) (le32 (length (w at)))) (a .bytes ∙ ap (written was s) (opened code s w))
-          ∙ patched was s (pad Array s) (le32 0) b (le32 (length (w at))) le (length-le32 0 ∙ sym (length-le32 (length (w at))))
-          ∙ ap (written was s) (sym (closed code s w));
+            p ∙ ap (λ k. written bytes (s + length (pad Array s)) (le32 k)) n
+            ∙ ap (λ l. written l (s + length (pad Array s)) (le32 (length (w at)))) (a .bytes ∙ ap (written was s) (opened code s w))
+            ∙ patched was s (pad Array s) (le32 0) b (le32 (length (w at))) le (length-le32 0 ∙ sym (length-le32 (length (w at))))
+            ∙ ap (written was s) (sym (closed code s w));
         ends = ends ∙ sym (length-array code w s);
         fits = a .fits;
       }

@@ -41,34 +41,34 @@ module _ (was ys : Bytes) (s from k : ℕ) (is-from : from ≡ min s (length was
   lent-part =
       ap (drop s) whole
       ∙ ⊎-elim
-          (λ lt. drop-all s (take from was ++ ys) (omega (arith, whole-size)) ∙ sym (nil-from-length ys (omega arith)))
-          (λ le. drop-at (take from was) ys s (omega (arith, front)))
-          (cases-lt (length was) s)
+      (λ lt. drop-all s (take from was ++ ys) (omega (arith, whole-size)) ∙ sym (nil-from-length ys (omega arith)))
+      (λ le. drop-at (take from was) ys s (omega (arith, front)))
+      (cases-lt (length was) s)
 
   pub lent-below : take s (putMid from k was ys) ≡ take s was
   lent-below =
       ap (take s) whole
       ∙ ⊎-elim
-          (λ lt.
-            take-all s (take from was ++ ys) (omega (arith, whole-size))
-            ∙ ap (λ z. take from was ++ z) (nil-from-length ys (omega arith)) ∙ append-nil (take from was) ∙ take-all from was (omega arith) ∙ sym (take-all s was (omega arith)))
-          (λ le. let e : from ≡ s = omega arith in take-at (take from was) ys s (omega (arith, front)) ∙ ap (λ n. take n was) e)
-          (cases-lt (length was) s)
+      (λ lt.
+      take-all s (take from was ++ ys) (omega (arith, whole-size))
+      ∙ ap (λ z. take from was ++ z) (nil-from-length ys (omega arith)) ∙ append-nil (take from was) ∙ take-all from was (omega arith) ∙ sym (take-all s was (omega arith)))
+      (λ le. let e : from ≡ s = omega arith in take-at (take from was) ys s (omega (arith, front)) ∙ ap (λ n. take n was) e)
+      (cases-lt (length was) s)
 
   pub lent-was : take k (drop from was) ≡ drop s was
   lent-was =
       ap (λ n. take n (drop from was)) is-k ∙ take-rest was from
       ∙ ⊎-elim
-          (λ lt. drop-all from was (omega arith) ∙ sym (drop-all s was (omega arith)))
-          (λ le. let e : from ≡ s = omega arith in ap (λ n. drop n was) e)
-          (cases-lt (length was) s)
+      (λ lt. drop-all from was (omega arith) ∙ sym (drop-all s was (omega arith)))
+      (λ le. let e : from ≡ s = omega arith in ap (λ n. drop n was) e)
+      (cases-lt (length was) s)
 
-pub take-min : (n m : ℕ) (xs : Bytes) → m ≡ min n (length xs) → take (m - 0) xs ≡ take n xs
+pub take-min : (n m : ℕ) (xs : Bytes) → m ≡ min (length xs) n → take (m - 0) xs ≡ take n xs
 take-min n m xs e =
     ⊎-elim
-      (λ lt. take-all (m - 0) xs (omega arith) ∙ sym (take-all n xs (omega arith)))
-      (λ le. let k : m - 0 ≡ n = omega arith in ap (λ i. take i xs) k)
-      (cases-lt (length xs) n)
+    (λ lt. take-all (m - 0) xs (omega arith) ∙ sym (take-all n xs (omega arith)))
+    (λ le. let k : m - 0 ≡ n = omega arith in ap (λ i. take i xs) k)
+    (cases-lt (length xs) n)
 
 take-more : (n m : ℕ) (xs : Bytes) → take (n + m) xs ≡ take n xs ++ take m (drop n xs)
 take-more n m xs =

@@ -14,7 +14,7 @@ use Rattle.std.specs.declared.result.Result.{Result}
 use Rattle.std.specs.declared.result.Result.the-variants.{Ok, Err}
 use Rattle.names.specs.Names.{all, validPath}
 use Rattle.signature.specs.declared.codes.Code.{Code}
-use Rattle.signature.specs.declared.codes.Code.the-variants.{Boolean, Uint32, String, ObjectPath}
+use Rattle.signature.specs.declared.codes.Code.the-variants.{Array, Boolean, Uint32, String, ObjectPath}
 use Rattle.wire.specs.declared.reading.ByteOrder.the-variants.{Little}
 use Rattle.wire.specs.declared.reading.Fault.{Fault}
 use Rattle.signature.specs.Codes.{alignOf}
@@ -22,11 +22,12 @@ use Rattle.wire.specs.Reading.{alignAt, andThen, boolAt, byteAt, bytesAt, ended
 use Rattle.signature.specs.Signatures.{validSignature}
 use Rattle.wire.specs.Text.{validText, zero?}
 use Rattle.wire.proofs.Read.{goes}
-use Rattle.outbox.specs.Marshal.{Bytes, Part, _▹_, ended, le32, pad, putBool, putPath, putSignature, putString, putText, putU32, putWord, raw}
+use Rattle.outbox.specs.Marshal.{Bytes, Part, _▹_, array, contentsAt, ended, le32, pad, putBool, putPath, putSignature, putString, putText, putU32, putWord, raw}
 use Rattle.outbox.specs.Pours.{Poured, Wrote}
-use Rattle.outbox.specs.ReadBack.{EveryReadsBack, Reader, Reads, ReadsBack, Stands}
+use Rattle.outbox.specs.ReadBack.{ArrayStands, EveryReadsBack, Reader, Reads, ReadsBack, Stands}
+use Rattle.outbox.proofs.Arrays.{after-start, contents-at}
 use Rattle.outbox.proofs.Chains.{drop-written, wrote-size}
-use Rattle.outbox.proofs.Lengths.{length-▹, length-ended, length-le32, length-pad, length-text, length-word}
+use Rattle.outbox.proofs.Lengths.{length-▹, length-array, length-ended, length-le32, length-pad, length-text, length-word}
 
 -- one part and then another
 module _ (msg : Bytes) (at : ℕ) (v w : Part) (a : Stands msg at (v ▹ w)) where
@@ -60,7 +61,7 @@ all-zeros : (n : ℕ) → all zero? (replicate n 0) ≡ true
 all-zeros zero = refl
 all-zeros (suc n) = all-zeros n
 
-pad-read : (code : Code) (msg : Bytes) (at : ℕ) → Stands msg at (pad code) → alignAt (alignOf code) msg at ≡ Ok (at + length (pad code at))
+pub pad-read : (code : Code) (msg : Bytes) (at : ℕ) → Stands msg at (pad code) → alignAt (alignOf code) msg at ≡ Ok (at + length (pad code at))
 unfolding alignAt pad
 pad-read code msg at a =
     let l = length-pad code at in
@@ -153,8 +154,41 @@ unfolding alignOf boolAt
 bool-reads true msg at a = goes _ (sym (word-reads Boolean 1 refl (omega arith) msg at a))
 bool-reads false msg at a = goes _ (sym (word-reads Boolean 0 refl (omega arith) msg at a))
 
+module _ (msg : Bytes) (at : ℕ) (code : Code) (w : Part) (a : Stands msg at (array code w)) where
+  pub array-stands : ArrayStands msg at code w
+  unfolding array alignOf
+  array-stands =
+      let c = contentsAt code at in
+      let n = length (w c) in
+      let whole : Stands msg at (putWord Array n ▹ pad code ▹ w) = record { bytes = a .bytes; within = a .within; short = a .short } in
+      let p = at + length (putWord Array n at) in
+      let first = stands-first msg at (putWord Array n) (pad code ▹ w) whole in
+      let rest = stands-next msg at (putWord Array n) (pad code ▹ w) whole in
+      let e : p ≡ at + length (pad Array at) + 4 = omega (arith, length-word Array n at) in
+      let f : p + length (pad code p) ≡ c = omega (arith, contents-at code at, length-pad code p, ap (gap (alignOf code)) e) in
+      let lt : n < 2 ^ 32 = omega (arith, a .short, length-array code w at, after-start code at) in
+      let elements = stands-next msg p (pad code) w rest in
+      record {
+        start = p;
+        counts = word-reads Array n refl lt msg at first;
+        pads = pad-read code msg p (stands-first msg p (pad code) w rest) ∙ ap Ok f;
+        holds = rw f at elements;
+        ends = sym (length-array code w at);
+      }
+
 pub every-reads-back : EveryReadsBack
-every-reads-back = record { u32 = u32-reads; bool = bool-reads; string = string-reads; path = path-reads; signature = signature-reads }
+every-reads-back =
+    record {
+      u32 = u32-reads;
+      bool = bool-reads;
+      string = string-reads;
+      path = path-reads;
+      signature = signature-reads;
+      padding = pad-read;
+      arrays = array-stands;
+      inFront = stands-first;
+      behind = stands-next;
+    }
 
 -- what a call has just written
 pub wrote-stands : (was is : Bytes) (from end : ℕ) (w : Part) → Wrote was from is end w → Stands is from w

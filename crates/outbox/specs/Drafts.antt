@@ -45,9 +45,9 @@ pub record Went {T E : Type 0} (d : Draft) (was : Bytes) (e : Draft) (is : Bytes
 -- A draft goes on to `len` bytes of the lent ones, if there are so many.
 pub record Grew {T E : Type 0} (d : Draft) (bytes : Bytes) (e : Draft) (r : Result T E) (len : ℕ) : Type 0 where
   pub fill :
-    Cases r
-    (λ t. (e .mark .now .fill ≡ d .start + len) × (d .start + len ≤ length bytes))
-    (λ x. (e .mark .now .fill ≡ d .mark .now .fill) × (length bytes < d .start + len))
+      Cases r
+      (λ t. (e .mark .now .fill ≡ d .start + len) × (d .start + len ≤ length bytes))
+      (λ x. (e .mark .now .fill ≡ d .mark .now .fill) × (length bytes < d .start + len))
   pub serial : e .mark .now .serial ≡ d .mark .now .serial
   pub start : e .start ≡ d .start
   pub lent : name (e .mark) ≡ name (d .mark)

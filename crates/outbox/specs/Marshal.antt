@@ -21,8 +21,8 @@ Part = ℕ → Bytes
 -- one part and then another
 unfoldable pub _▹_ : Part → Part → Part
 (v ▹ w) off = v off ++ w (off + length (v off))
-infixr 5 _▹_
 
+infixr 5 _▹_
 -- "the minimum required padding to properly align the following value", "made up of nul bytes"
 unfoldable pub pad : Code → Part
 pad code off = replicate (gap (alignOf code) off) 0

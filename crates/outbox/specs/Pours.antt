@@ -48,6 +48,6 @@ pub record Patched {T E : Type 0} (was : Bytes) (at : ℕ) (is : Bytes) (r : Res
 -- The array that begins at `start` and goes on to `end` has its length; or it cannot be one.
 pub record Closed {E : Type 0} (was : Bytes) (start : ℕ) (element : Code) (end : ℕ) (is : Bytes) (r : Result ℕ E) : Type 0 where
   pub by :
-    Cases r
-    (λ to. (to ≡ end) × (is ≡ written was (start + length (pad Array start)) (le32 (end - contentsAt element start))) × (contentsAt element start ≤ end) × (end ≤ room was))
-    (λ e. (is ≡ was) × (contentsAt element start ≤ end → room was < end))
+      Cases r
+      (λ to. (to ≡ end) × (is ≡ written was (start + length (pad Array start)) (le32 (end - contentsAt element start))) × (contentsAt element start ≤ end) × (end ≤ room was))
+      (λ e. (is ≡ was) × (contentsAt element start ≤ end → room was < end))

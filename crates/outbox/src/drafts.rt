@@ -2,7 +2,7 @@
 ghost use denote.Ref.{name};
 ghost use lib.ListN.{drop, length, take};
 ghost use mathlib.Core.Path.{_≡_};
-ghost use Prim.Native.Nat.{_-_};
+ghost use Prim.Native.Nat.{min};
 ghost use Rattle.outbox.specs.Drafts.{Grew, Sent, Went, drafted, following, fresh, kept, left};
 ghost use Rattle.outbox.specs.Marshal.{Part, le32, raw};
 ghost use Rattle.outbox.specs.Pours.{Patched, Poured};
@@ -77,11 +77,11 @@ impl<'a> Draft<'a> {
         self.mark.serial
     }
 
-    // Where in the bytes the message begins.
-    pub fn start(&self) -> usize
-        ensures { λ r. ⌜ r ≡ now (self .entry) .start ⌝ }
+    // Where in the bytes the message begins; their end, if they do not go so far.
+    pub fn start(&self, bytes: &[u8]) -> usize
+        ensures { λ r. ⌜ r ≡ min (now (self .entry) .start) (length (now (bytes .entry))) ⌝ }
     {
-        self.start
+        self.start.min(bytes.len())
     }
 
     // How much of the message there is.
@@ -96,8 +96,8 @@ impl<'a> Draft<'a> {
         ensures { λ r. ⌜ Went (now (self .entry)) (now (bytes .entry)) (now (self .exit)) (now (bytes .exit)) r (part (now (value .entry))) ⌝ }
     {
         let at = self.len();
+        let from = self.start(bytes);
         let end = bytes.len();
-        let from = self.start.min(end);
         let len = value.marshal(&mut bytes[from..end], at)?;
         self.mark.fill = self.start + len;
         Ok(())
@@ -120,8 +120,8 @@ impl<'a> Draft<'a> {
         ensures below { λ _. ⌜ take (now (self .entry) .start) (now (bytes .exit)) ≡ take (now (self .entry) .start) (now (bytes .entry)) ⌝ }
         ensures size { λ _. ⌜ length (now (bytes .exit)) ≡ length (now (bytes .entry)) ⌝ }
     {
+        let from = self.start(bytes);
         let end = bytes.len();
-        let from = self.start.min(end);
         patch_u32(&mut bytes[from..end], at, n)
     }
 
@@ -131,7 +131,11 @@ impl<'a> Draft<'a> {
         ensures serial { λ _. ⌜ now (self .exit .0) .serial ≡ following (now (self .entry .mark) .serial) ⌝ }
     {
         let Draft { mark, start: _ } = self;
-        mark.serial = if mark.serial == u32::MAX { 1 } else { mark.serial + 1 };
+        mark.serial = if mark.serial == u32::MAX {
+            1
+        } else {
+            mark.serial + 1
+        };
     }
 }
 
@@ -147,14 +151,17 @@ impl<'a> Outbox<'a> {
         ensures lent { λ r. ⌜ r .bytes ≡ bytes .entry ⌝ }
         ensures mark { λ r. ⌜ r .mark ≡ fresh ⌝ }
     {
-        Outbox { bytes, mark: Mark::new() }
+        Outbox {
+            bytes,
+            mark: Mark::new(),
+        }
     }
 
     // The messages, one after another.
     pub fn written(&self) -> &[u8]
         ensures { λ r. ⌜ now r ≡ kept (now (self .entry)) ⌝ }
     {
-        let end = self.mark.fill.min(self.bytes.len());
+        let end = self.bytes.len().min(self.mark.fill);
         &self.bytes[0..end]
     }
 
@@ -176,7 +183,8 @@ impl<'a> Outbox<'a> {
     pub fn serial(&self) -> u32
         ensures { λ r. ⌜ r ≡ now (self .entry) .mark .serial ⌝ }
     {
-        self.mark.serial
+        let mark = &self.mark;
+        mark.serial
     }
 
     // No messages any more; serials go on.
@@ -197,5 +205,54 @@ impl<'a> Outbox<'a> {
         draft.put(bytes, message)?;
         draft.keep();
         Ok(())
+    }
+}
+
+#[cfg(test)]
+mod tests {
+    use super::*;
+    use std::test::*;
+
+    // The second message fits exactly; a third does not, and changes nothing.
+    #[test]
+    fn whole_messages() -> Result<(), Fail> {
+        let mut bytes = [9u8; 5];
+        let mut outbox = Outbox::new(&mut bytes);
+        check(outbox.send(&Raw(b"abc")).is_ok())?;
+        check(outbox.send(&Raw(b"def")).is_err())?;
+        check_eq(outbox.len(), 3)?;
+        check_eq(outbox.serial(), 2)?;
+        check_eq(outbox.left(), 2)?;
+        check(outbox.send(&Raw(b"gh")).is_ok())?;
+        check(outbox.written() == b"abcgh")?;
+        check(outbox.send(&Raw(b"i")).is_err())?;
+        check_eq(outbox.serial(), 3)?;
+        outbox.clear();
+        check_eq(outbox.len(), 0)?;
+        check_eq(outbox.serial(), 3)
+    }
+
+    // The last serial of 32 bits, and then 1.
+    #[test]
+    fn serials_go_round() -> Result<(), Fail> {
+        let mut bytes = [9u8; 8];
+        let mut mark = Mark {
+            fill: 0,
+            serial: u32::MAX,
+        };
+        let mut draft = Draft::begin(&mut mark);
+        check_eq(draft.serial(), u32::MAX)?;
+        check(draft.put(&mut bytes, &Raw(b"ab")).is_ok())?;
+        check_eq(draft.len(), 2)?;
+        draft.keep();
+        check_eq(mark.serial, 1)?;
+        check_eq(mark.fill, 2)?;
+        {
+            let mut draft = Draft::begin(&mut mark);
+            check(draft.put(&mut bytes, &Raw(b"cde")).is_ok())?;
+            check_eq(draft.len(), 3)?;
+        }
+        check_eq(mark.serial, 1)?;
+        check_eq(mark.fill, 2)
     }
 }

@@ -137,8 +137,7 @@ pub fn open_array(bytes: &mut [u8], from: usize, element: Code) -> Result<usize,
 // Wherever what was written stands in a message, it is read back.
 pub fn values_read_back()
     ensures { λ _. ⌜ EveryReadsBack ⌝ }
-{
-}
+{}
 
 // Overwrites the 32 bits at `at`, as a length that is known only later.
 pub fn patch_u32(bytes: &mut [u8], at: usize, n: u32) -> Result<(), Full>
@@ -188,4 +187,122 @@ pub fn close_array(bytes: &mut [u8], start: usize, element: Code, end: usize) ->
     let len = (end - contents) as u32;
     put_raw(bytes, hole, &len.to_le_bytes())?;
     Ok(end)
+}
+
+#[cfg(test)]
+mod tests {
+    use super::*;
+    use std::test::*;
+
+    // The Specification: strings ‘foo’, ‘+’ and ‘bar’ in sequence.
+    #[test]
+    fn three_strings() -> Result<(), Fail> {
+        let mut bytes = [9u8; 25];
+        let at = put_string(&mut bytes, 0, b"foo")?;
+        let at = put_string(&mut bytes, at, b"+")?;
+        let at = put_string(&mut bytes, at, b"bar")?;
+        check_eq(at, 24)?;
+        let expected = [
+            3u8,
+            0,
+            0,
+            0,
+            102,
+            111,
+            111,
+            0,
+            1,
+            0,
+            0,
+            0,
+            43,
+            0,
+            0,
+            0,
+            3,
+            0,
+            0,
+            0,
+            98,
+            97,
+            114,
+            0,
+            9,
+        ];
+        check(bytes == expected)
+    }
+
+    // A dictionary of one entry, with its length filled in last; it begins at 4 and the entry at 8.
+    #[test]
+    fn one_entry() -> Result<(), Fail> {
+        let mut bytes = [9u8; 25];
+        let start = put_bool(&mut bytes, 0, true)?;
+        let at = open_array(&mut bytes, start, Code::DictEntry)?;
+        let at = put_pad(&mut bytes, at, Code::DictEntry)?;
+        let at = put_string(&mut bytes, at, b"Gain")?;
+        let at = open_variant(&mut bytes, at, b'i')?;
+        let at = put_i32(&mut bytes, at, -2)?;
+        check_eq(close_array(&mut bytes, start, Code::DictEntry, at)?, 24)?;
+        let expected = [
+            1u8,
+            0,
+            0,
+            0,
+            16,
+            0,
+            0,
+            0,
+            4,
+            0,
+            0,
+            0,
+            71,
+            97,
+            105,
+            110,
+            0,
+            1,
+            105,
+            0,
+            254,
+            255,
+            255,
+            255,
+            9,
+        ];
+        check(bytes == expected)
+    }
+
+    // Each writer into bytes that suffice, and into one byte less.
+    #[test]
+    fn full_and_short() -> Result<(), Fail> {
+        check(put_raw(&mut [9u8; 3], 1, b"ab").is_ok())?;
+        check(put_raw(&mut [9u8; 2], 1, b"ab").is_err())?;
+        check(put_pad(&mut [9u8; 8], 1, Code::Uint64).is_ok())?;
+        check(put_pad(&mut [9u8; 7], 1, Code::Uint64).is_err())?;
+        check(put_u32(&mut [9u8; 8], 1, 7).is_ok())?;
+        check(put_u32(&mut [9u8; 7], 1, 7).is_err())?;
+        check(put_bool(&mut [9u8; 8], 1, true).is_ok())?;
+        check(put_bool(&mut [9u8; 7], 1, true).is_err())?;
+        check(put_i32(&mut [9u8; 8], 1, -7).is_ok())?;
+        check(put_i32(&mut [9u8; 7], 1, -7).is_err())
+    }
+
+    #[test]
+    fn texts_full_and_short() -> Result<(), Fail> {
+        check(put_string(&mut [9u8; 11], 1, b"ab").is_ok())?;
+        check(put_string(&mut [9u8; 10], 1, b"ab").is_err())?;
+        check(put_path(&mut [9u8; 11], 1, b"/a").is_ok())?;
+        check(put_path(&mut [9u8; 10], 1, b"/a").is_err())?;
+        check(put_signature(&mut [9u8; 5], 1, b"as").is_ok())?;
+        check(put_signature(&mut [9u8; 4], 1, b"as").is_err())?;
+        check(open_variant(&mut [9u8; 4], 1, b's').is_ok())?;
+        check(open_variant(&mut [9u8; 3], 1, b's').is_err())?;
+        check(open_array(&mut [9u8; 16], 5, Code::Structure).is_ok())?;
+        check(open_array(&mut [9u8; 15], 5, Code::Structure).is_err())?;
+        check(close_array(&mut [9u8; 8], 0, Code::Structure, 8).is_ok())?;
+        check(close_array(&mut [9u8; 7], 0, Code::Structure, 8).is_err())?;
+        check(patch_u32(&mut [9u8; 8], 4, 7).is_ok())?;
+        check(patch_u32(&mut [9u8; 7], 4, 7).is_err())
+    }
 }

@@ -12,8 +12,8 @@ returns-then-more-room c = raw-fits _ _ _ _ _ (omega arith) (c .copy-from-slice 
 pub returns-else-from-room : need.returns-else-from-room
 returns-else-from-room c =
     let lt : room (c .args .bytes .now) < c .args .from + length (c .args .more .now) =
-      elim (c .else-from-room .came) [
-        else-from-room·by·then-from-room·else-more-room w ↦ omega (arith, w .if-from-room .taken, w .if-more-room .left)
+    elim (c .else-from-room .came) [
+      | else-from-room·by·then-from-room·else-more-room w ↦ omega (arith, w .if-from-room .taken, w .if-more-room .left)
       | else-from-room·by·else-from-room w ↦ omega (arith, w .if-from-room .left)
-      ] in
+    ] in
     raw-full _ _ _ _ lt

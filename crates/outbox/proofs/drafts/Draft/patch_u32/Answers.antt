@@ -9,12 +9,12 @@ pub returns : need.returns
 returns c =
     let was = c .args .bytes .now in
     let s = c .args .self .now .start in
-    let from = c .min-from .result in
+    let from = c .start-from .result in
     let ys = c .patch-u32 .last .bytes in
     let p = c .patch-u32 .ensures in
     let size : length ys ≡ length was - from = patched-size _ _ _ _ _ p ∙ omega (arith, length-take (length was - from) (drop from was), length-drop from was) in
     record {
-      patched = patched-at _ _ _ _ _ _ _ (lent-was was ys s from _ (c .min-from .ensures) refl size) (sym (lent-part was ys s from _ (c .min-from .ensures) refl size)) p;
-      below = lent-below was ys s from _ (c .min-from .ensures) refl size;
-      size = lent-size was ys s from _ (c .min-from .ensures) refl size;
+      patched = patched-at _ _ _ _ _ _ _ (lent-was was ys s from _ (c .start-from .ensures) refl size) (sym (lent-part was ys s from _ (c .start-from .ensures) refl size)) p;
+      below = lent-below was ys s from _ (c .start-from .ensures) refl size;
+      size = lent-size was ys s from _ (c .start-from .ensures) refl size;
     }

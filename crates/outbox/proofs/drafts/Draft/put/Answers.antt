@@ -11,16 +11,16 @@ pub returns-in-Break-len : need.returns-in-Break-len
 returns-in-Break-len g c =
     let was = c .args .bytes .now in
     let s = c .args .self .now .start in
-    let from = c .min-from .result in
+    let from = c .start-from .result in
     let ys = c .marshal .last .bytes in
     let p = c .in-Break-len .ensures tt in
     let size : length ys ≡ length was - from = poured-size _ _ _ _ _ p ∙ omega (arith, length-take (length was - from) (drop from was), length-drop from was) in
     let e = err-from-errBy (c .from-residual .result) (c .from-residual .ensures .1) in
     rw (e .1)
     (record {
-      wrote = poured-at _ _ _ _ _ _ _ _ _ (lent-was was ys s from _ (c .min-from .ensures) refl size) (sym (lent-part was ys s from _ (c .min-from .ensures) refl size)) (c .len-at .ensures) refl p;
-      below = lent-below was ys s from _ (c .min-from .ensures) refl size;
-      size = lent-size was ys s from _ (c .min-from .ensures) refl size;
+      wrote = poured-at _ _ _ _ _ _ _ _ _ (lent-was was ys s from _ (c .start-from .ensures) refl size) (sym (lent-part was ys s from _ (c .start-from .ensures) refl size)) (c .len-at .ensures) refl p;
+      below = lent-below was ys s from _ (c .start-from .ensures) refl size;
+      size = lent-size was ys s from _ (c .start-from .ensures) refl size;
       fill = refl;
       serial = refl;
       start = refl;
@@ -31,16 +31,16 @@ pub returns : need.returns
 returns g c =
     let was = c .args .bytes .now in
     let s = c .args .self .now .start in
-    let from = c .min-from .result in
+    let from = c .start-from .result in
     let ys = c .marshal .last .bytes in
     let n = c .in-Continue-len .len in
     let p = c .in-Continue-len .ensures tt in
     let size : length ys ≡ length was - from = poured-size _ _ _ _ _ p ∙ omega (arith, length-take (length was - from) (drop from was), length-drop from was) in
     let reached : n ≡ s + n - s = omega arith in
     record {
-      wrote = poured-at _ _ _ _ _ _ _ _ _ (lent-was was ys s from _ (c .min-from .ensures) refl size) (sym (lent-part was ys s from _ (c .min-from .ensures) refl size)) (c .len-at .ensures) (ap Ok reached) p;
-      below = lent-below was ys s from _ (c .min-from .ensures) refl size;
-      size = lent-size was ys s from _ (c .min-from .ensures) refl size;
+      wrote = poured-at _ _ _ _ _ _ _ _ _ (lent-was was ys s from _ (c .start-from .ensures) refl size) (sym (lent-part was ys s from _ (c .start-from .ensures) refl size)) (c .len-at .ensures) (ap Ok reached) p;
+      below = lent-below was ys s from _ (c .start-from .ensures) refl size;
+      size = lent-size was ys s from _ (c .start-from .ensures) refl size;
       fill = ap (λ k. s + k) reached;
       serial = refl;
       start = refl;
