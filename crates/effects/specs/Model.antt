@@ -64,15 +64,15 @@ abbrev pub methodAt : Bytes → List MethodModel → Option MethodModel
 methodAt n [] = None
 methodAt n (k ∷ ks) = cond (sameBytes n (k .name)) (Some k) (methodAt n ks)
 
--- The limits and the orders that every interface keeps.
-abbrev pub aboveAll : Bytes → List Bytes → Bool
-aboveAll a [] = true
-aboveAll a (b ∷ bs) = bytesBefore a b
+-- The limits and the orders that every interface keeps: a name comes before the next one
+abbrev pub beforeNext : Bytes → List Bytes → Bool
+beforeNext a [] = true
+beforeNext a (b ∷ bs) = bytesBefore a b
 
 -- each name is strictly above the one before it
 abbrev pub ascending : List Bytes → Bool
 ascending [] = true
-ascending (a ∷ more) = aboveAll a more && ascending more
+ascending (a ∷ more) = beforeNext a more && ascending more
 
 abbrev pub wellProperty : PropertyModel → Bool
 wellProperty p =
