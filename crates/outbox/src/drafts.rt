@@ -1,11 +1,13 @@
 // The outbox: the caller's bytes, up to where they hold whole messages, and the next serial. A message is written as a draft.
 ghost use denote.Ref.{name};
 ghost use lib.ListN.{drop, length, take};
+ghost use mathlib.Core.Bool.{false};
 ghost use mathlib.Core.Path.{_≡_};
 ghost use Prim.Native.Nat.{min};
 ghost use Rattle.outbox.specs.Drafts.{Grew, Sent, Went, drafted, following, fresh, kept, left};
 ghost use Rattle.outbox.specs.Marshal.{Part, le32, raw};
 ghost use Rattle.outbox.specs.Pours.{Patched, Poured};
+ghost use Rattle.std.specs.Results.{isOk};
 use crate::writing::Full;
 use crate::writing::patch_u32;
 use crate::writing::put_raw;
@@ -93,7 +95,8 @@ impl<'a> Draft<'a> {
 
     // A part more, of the bytes that the mark is of. Its offset is counted from the message's first byte.
     pub fn put<M: Marshal>(&mut self, bytes: &mut [u8], value: &M) -> Result<(), Full>
-        ensures { λ r. ⌜ Went (now (self .entry)) (now (bytes .entry)) (now (self .exit)) (now (bytes .exit)) r (part (now (value .entry))) ⌝ }
+        ensures went { λ r. ⌜ Went (now (self .entry)) (now (bytes .entry)) (now (self .exit)) (now (bytes .exit)) r (part (now (value .entry))) ⌝ }
+        ensures stays { λ r. ⌜ (isOk r ≡ false → now (now (self .exit) .mark) .fill ≡ now (now (self .entry) .mark) .fill) ⌝ }
     {
         let at = self.len();
         let from = self.start(bytes);

@@ -9,7 +9,7 @@ use Rattle.outbox.proofs.drafts.Outbox.send.Needs as need
 pub returns : need.returns
 returns g c =
     let o = c .args .self .now in
-    let q = c .in-Continue-put .ensures tt in
+    let q = c .in-Continue-put .ensures tt .went in
     let lent = c .begin-draft .ensures .lent in
     let start = c .begin-draft .ensures .start in
     let n = drafted (c .put .last .self) in
