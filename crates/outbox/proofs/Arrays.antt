@@ -1,7 +1,7 @@
 -- The length of an array, filled in last.
-use mathlib.Core.List.{List, [], _∷_, _++_, append-assoc}
-use mathlib.Core.Path.{_≡_, refl, sym, ap, _∙_}
-use Prim.Native.Nat.{ℕ, _+_, _-_, _≤_, _<_}
+use mathlib.Core.List.{_++_, append-assoc}
+use mathlib.Core.Path.{_≡_, sym, ap, _∙_}
+use Prim.Native.Nat.{ℕ, _+_, _-_, _≤_}
 use native.Mathlib.Omega.{arith}
 use lib.ListN.{length, take, drop, length-append}
 use Rattle.std.proofs.shelf.Lists.{drop-at, drop-drop, length-take-le, take-at}
@@ -11,8 +11,8 @@ use Rattle.signature.specs.declared.codes.Code.{Code}
 use Rattle.signature.specs.declared.codes.Code.the-variants.{Array}
 use Rattle.signature.specs.Codes.{alignOf}
 use Rattle.wire.specs.Reading.{gap}
-use Rattle.outbox.specs.Marshal.{Bytes, Part, _▹_, array, contentsAt, le32, openArray, pad, putWord, raw}
-use Rattle.outbox.specs.Pours.{Closed, Poured, Wrote, room, written}
+use Rattle.outbox.specs.Marshal.{Bytes, Part, _▹_, array, contentsAt, le32, openArray, pad, putWord}
+use Rattle.outbox.specs.Pours.{Closed, Poured, Wrote, written}
 use Rattle.outbox.proofs.Chains.{wrote-size}
 use Rattle.outbox.proofs.Lengths.{length-▹, length-array, length-le32, length-pad, length-word}
 

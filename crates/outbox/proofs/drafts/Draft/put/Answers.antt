@@ -1,7 +1,7 @@
 use mathlib.Core.Path.{_≡_, refl, sym, ap, _∙_}
 use Prim.Native.Nat.{ℕ, _+_, _-_}
 use native.Mathlib.Omega.{arith}
-use lib.ListN.{length, drop, take, length-drop, length-take}
+use lib.ListN.{length, drop, length-drop, length-take}
 use Rattle.std.proofs.shelf.Results.{err-from-errBy}
 use Rattle.std.specs.declared.result.Result.the-variants.{Ok}
 use Rattle.outbox.proofs.Lent.{lent-below, lent-part, lent-size, lent-was, poured-at, poured-size}
