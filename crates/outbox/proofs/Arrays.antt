@@ -1,7 +1,7 @@
 -- The length of an array, filled in last.
-use mathlib.Core.List.{List, [], _∷_, _++_, append-assoc}
-use mathlib.Core.Path.{_≡_, refl, sym, ap, _∙_}
-use Prim.Native.Nat.{ℕ, _+_, _-_, _≤_, _<_}
+use mathlib.Core.List.{_++_, append-assoc}
+use mathlib.Core.Path.{_≡_, sym, ap, _∙_}
+use Prim.Native.Nat.{ℕ, _+_, _-_, _≤_}
 use native.Mathlib.Omega.{arith}
 use lib.ListN.{length, take, drop, length-append}
 use Rattle.std.proofs.shelf.Lists.{drop-at, drop-drop, length-take-le, take-at}
@@ -11,8 +11,8 @@ use Rattle.signature.specs.declared.codes.Code.{Code}
 use Rattle.signature.specs.declared.codes.Code.the-variants.{Array}
 use Rattle.signature.specs.Codes.{alignOf}
 use Rattle.wire.specs.Reading.{gap}
-use Rattle.outbox.specs.Marshal.{Bytes, Part, _▹_, array, contentsAt, le32, openArray, pad, putWord, raw}
-use Rattle.outbox.specs.Pours.{Closed, Poured, Wrote, room, written}
+use Rattle.outbox.specs.Marshal.{Bytes, Part, _▹_, array, contentsAt, le32, openArray, pad, putWord}
+use Rattle.outbox.specs.Pours.{Closed, Poured, Wrote, written}
 use Rattle.outbox.proofs.Chains.{wrote-size}
 use Rattle.outbox.proofs.Lengths.{length-▹, length-array, length-le32, length-pad, length-word}
 
@@ -110,3 +110,30 @@ module _ (code : Code) (s a b before past : ℕ) (is-a : a ≡ alignOf Array) (i
 
 pub after-start : (code : Code) (s : ℕ) → s ≤ contentsAt code s
 after-start code s = omega (arith, contents-at code s)
+
+-- a number of 32 bits inside what was written, filled in later
+module _ (was bytes is : Bytes) (s e : ℕ) (u : Part) (code : Code) (w : Part) where
+  around : ℕ → Bytes
+  around n = (u s ++ pad code (s + length (u s))) ++ (le32 n ++ w (s + length (u s) + length (pad code (s + length (u s))) + 4))
+
+  split-at : (n : ℕ) → (u ▹ putWord code n ▹ w) s ≡ around n
+  unfolding around _▹_ putWord
+  split-at n =
+      let q = s + length (u s) in
+      let k : q + length (pad code q ++ le32 n) ≡ q + length (pad code q) + 4 = omega (arith, length-append (pad code q) (le32 n), length-le32 n) in
+      rw k (simp append-assoc)
+
+  pub patch-word : (m n : ℕ) → Wrote was s bytes e (u ▹ putWord code m ▹ w) → is ≡ written bytes (s + length (u s) + length (pad code (s + length (u s)))) (le32 n) → Wrote was s is e (u ▹ putWord code n ▹ w)
+  unfolding around
+  patch-word m n a p =
+      let q = s + length (u s) in
+      let at : q + length (pad code q) ≡ s + length (u s ++ pad code q) = omega (arith, length-append (u s) (pad code q)) in
+      let size : length (around m) ≡ length (around n) =
+        omega (arith, length-append (u s ++ pad code q) (le32 m ++ w (q + length (pad code q) + 4)), length-append (le32 m) (w (q + length (pad code q) + 4)), length-append (u s ++ pad code q) (le32 n ++ w (q + length (pad code q) + 4)), length-append (le32 n) (w (q + length (pad code q) + 4)), length-le32 m, length-le32 n) in
+      record {
+        bytes =
+          p ∙ ap (λ k. written bytes k (le32 n)) at ∙ ap (λ l. written l (s + length (u s ++ pad code q)) (le32 n)) (a .bytes ∙ ap (written was s) (split-at m))
+          ∙ patched was s (u s ++ pad code q) (le32 m) _ (le32 n) (omega (arith, a .ends, a .fits)) (length-le32 m ∙ sym (length-le32 n)) ∙ ap (written was s) (sym (split-at n));
+        ends = a .ends ∙ omega (arith, ap length (split-at m), ap length (split-at n));
+        fits = a .fits;
+      }

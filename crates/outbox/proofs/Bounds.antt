@@ -1,15 +1,15 @@
 -- How long parts can be at most, wherever they stand.
 use mathlib.Core.List.{List, [], _∷_}
-use Prim.Native.Nat.{ℕ, _+_, _*_, _≤_, _<_}
+use Prim.Native.Nat.{ℕ, _+_, _*_, _≤_}
 use native.Mathlib.Nat.{mul-suc}
 use native.Mathlib.Omega.{arith}
 use lib.ListN.{length}
 use Rattle.std.specs.shelf.Lists.{All}
 use Rattle.signature.specs.declared.codes.Code.{Code}
 use Rattle.signature.specs.declared.codes.Code.the-variants.{Array}
-use Rattle.outbox.specs.Marshal.{Bytes, Part, _▹_, array, contentsAt, many, pad, putSignature, putText, putWord, raw}
+use Rattle.outbox.specs.Marshal.{Bytes, Part, _▹_, array, contentsAt, many, pad, putSignature, putText, putWord}
 use Rattle.outbox.proofs.Arrays.{contents-at}
-use Rattle.outbox.proofs.Lengths.{gap-lt, length-▹, length-array, length-pad, length-signature, length-text, length-word, pad-short}
+use Rattle.outbox.proofs.Lengths.{length-▹, length-array, length-pad, length-signature, length-text, length-word, pad-short}
 
 abbrev pub AtMost : ℕ → Part → Type 0
 AtMost n w = (off : ℕ) → length (w off) ≤ n

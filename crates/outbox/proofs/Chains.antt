@@ -1,11 +1,10 @@
 -- One write after another.
-use mathlib.Core.List.{List, [], _∷_, _++_, append-assoc}
-use mathlib.Core.Logic.{⊎-elim}
+use mathlib.Core.List.{[], _∷_, _++_, append-assoc}
 use mathlib.Core.Path.{_≡_, refl, sym, ap, _∙_}
 use Prim.Native.Nat.{ℕ, _+_, _-_, _≤_, _<_}
 use native.Mathlib.Omega.{arith}
 use borrow.Rule.Slice.PartMut.{putMid}
-use lib.ListN.{length, take, drop, replicate, length-append, length-drop}
+use lib.ListN.{length, take, drop, replicate, length-append}
 use lib.Seq.{paste}
 use Rattle.std.proofs.shelf.Edits.{length-paste, paste-all, paste-paste}
 use Rattle.std.proofs.shelf.Lists.{length-take-le, take-at, drop-at, take-take, take-replicate}

@@ -1,13 +1,13 @@
 -- Worked examples: those of the Specification, and bodies that libdbus 1.14 wrote.
 use mathlib.Core.Bool.{true}
-use mathlib.Core.List.{List, [], _∷_}
+use mathlib.Core.List.{[], _∷_}
 use mathlib.Core.Path.{_≡_, refl}
 use lib.Chars.{codes}
 use lib.IntN.{negsuc}
 use Rattle.signature.specs.declared.codes.Code.the-variants.{DictEntry, String, Uint64}
 use Rattle.signature.specs.Codes.{alignOf}
 use Rattle.wire.specs.Reading.{gap}
-use Rattle.outbox.specs.Marshal.{Bytes, Part, _▹_, array, contentsAt, ended, entry, le32, many, openArray, pad, putBool, putI32, putPath, putSignature, putString, putText, putU32, putWord, raw, variant}
+use Rattle.outbox.specs.Marshal.{Part, _▹_, array, contentsAt, ended, entry, le32, many, openArray, pad, putBool, putI32, putPath, putSignature, putString, putText, putU32, putWord, raw, variant}
 
 -- "strings ‘foo’, ‘+’ and ‘bar’ would be serialized in sequence as follows"
 pub three-strings : many putString (codes "foo" ∷ codes "+" ∷ codes "bar" ∷ []) 8

@@ -1,5 +1,5 @@
 -- A draft's part of the lent bytes, and what an outbox then holds.
-use mathlib.Core.List.{List, [], _∷_, _++_}
+use mathlib.Core.List.{_++_}
 use mathlib.Core.Logic.{⊎-elim}
 use mathlib.Core.Path.{_≡_, refl, sym, ap, _∙_}
 use Prim.Native.Nat.{ℕ, _+_, _-_, _≤_, _<_, min}
@@ -10,9 +10,11 @@ use Rattle.std.proofs.shelf.Lists.{append-nil, drop-all, drop-at, drop-take, le
 use Rattle.std.proofs.shelf.Tests.{cases-lt}
 use Rattle.std.specs.declared.result.Result.{Result}
 use Rattle.std.specs.declared.result.Result.the-variants.{Ok, Err}
-use Rattle.outbox.specs.Marshal.{Bytes, Part}
+use Rattle.outbox.specs.declared.drafts.Draft.{Draft}
+use Rattle.outbox.specs.Drafts.{Went, drafted, reached}
+use Rattle.outbox.specs.Marshal.{Bytes, Part, _▹_}
 use Rattle.outbox.specs.Pours.{Patched, Poured, room}
-use Rattle.outbox.proofs.Chains.{length-written, wrote-size}
+use Rattle.outbox.proofs.Chains.{length-written, poured-stops, poured-then, wrote-size}
 
 pub poured-size : {E : Type 0} (was is : Bytes) (f : ℕ) (r : Result ℕ E) (w : Part) → Poured was f is r w → length is ≡ length was
 poured-size was is f (Ok g) w a = wrote-size was is f g w (a .by)
@@ -90,3 +92,47 @@ patched-size was is at (Err e) xs a = a .by .0 .size
 
 pub patched-at : {T E : Type 0} (a a′ b b′ : Bytes) (f : ℕ) (r : Result T E) (xs : Bytes) → a ≡ a′ → b ≡ b′ → Patched a f b r xs → Patched a′ f b′ r xs
 patched-at a a′ b b′ f r xs p q h = rw (sym p, sym q) h
+
+-- and one that was refused
+pub declined : {E : Type 0} (was is : Bytes) (f s a : ℕ) (e : E) (w : Part) → s ≡ f → a ≡ 0 → take s is ≡ take s was → Poured (drop s was) a (drop s is) (Err e) w
+    → (take f is ≡ take f was) × (room (drop f was) < length (w 0))
+declined was is f s a e w p q below h =
+    let k : take f is ≡ take f was = rw p at below in
+    let m : Poured (drop f was) 0 (drop f is) (Err e) w = rw (p, q) at h in
+    (k, omega (arith, m .by .full))
+
+-- one part of a draft after another
+module _ {S T E F : Type 0} (d e f : Draft) (was between is : Bytes) (t : S) (v w : Part) (a : Went {E = E} d was e between (Ok t) v) where
+  further : (r : Result T F) → Went e between f is r w → Poured (drop (d .start) was) (drafted d) (drop (d .start) is) (reached r (drafted f)) (v ▹ w)
+  further r b =
+      poured-then _ (drop (d .start) between) _ _ _ _ v w (a .wrote)
+      (poured-at _ _ _ _ _ _ _ _ w (ap (λ k. drop k between) (a .start)) (ap (λ k. drop k is) (a .start)) refl refl (b .wrote))
+
+  below : (r : Result T F) → Went e between f is r w → take (d .start) is ≡ take (d .start) was
+  below r b = let k : take (d .start) is ≡ take (d .start) between = rw (a .start) at (b .below) in k ∙ a .below
+
+  pub went-then : (r : Result T F) → Went e between f is r w → Went d was f is r (v ▹ w)
+  went-then (Ok x) b =
+      record {
+        wrote = further (Ok x) b;
+        below = below (Ok x) b;
+        size = b .size ∙ a .size;
+        fill = b .fill ∙ ap (λ k. k + drafted f) (a .start);
+        serial = b .serial ∙ a .serial;
+        start = b .start ∙ a .start;
+        lent = b .lent ∙ a .lent;
+      }
+  went-then (Err x) b =
+      record {
+        wrote = further (Err x) b;
+        below = below (Err x) b;
+        size = b .size ∙ a .size;
+        fill = tt;
+        serial = b .serial ∙ a .serial;
+        start = b .start ∙ a .start;
+        lent = b .lent ∙ a .lent;
+      }
+
+pub went-stops : {S T E F : Type 0} (d e : Draft) (was is : Bytes) (x : E) (y : F) (v w : Part) → Went {T = S} d was e is (Err x) v → Went {T = T} d was e is (Err y) (v ▹ w)
+went-stops d e was is x y v w a =
+    record { wrote = poured-stops _ _ _ x y v w (a .wrote); below = a .below; size = a .size; fill = tt; serial = a .serial; start = a .start; lent = a .lent }

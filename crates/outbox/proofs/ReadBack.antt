@@ -1,15 +1,14 @@
 -- What was written is read back.
-use mathlib.Core.Bool.{Bool, true, false, cond}
-use mathlib.Core.List.{List, [], _∷_, _++_}
+use mathlib.Core.Bool.{Bool, true, false}
+use mathlib.Core.List.{[], _∷_, _++_}
 use mathlib.Core.Path.{_≡_, refl, sym, ap, _∙_}
 use Prim.Native.Nat.{ℕ, zero, suc, _+_, _-_, _*_, _/_, _%_, _^_, _≤_, _<_}
 use native.Mathlib.Nat.{add-zero, div-add-mod', div-div-eq-div-mul, mod-eq-of-lt}
 use native.Mathlib.Omega.{arith}
-use lib.Dec.{eqb, leb, ltb}
-use lib.ListN.{drop, getD, length, replicate, take, length-append}
+use lib.ListN.{drop, getD, length, replicate, take}
 use Rattle.std.proofs.shelf.Bits.{div-below}
 use Rattle.std.proofs.shelf.Lists.{drop-at, drop-drop, drop-take, getD-drop, getD-take, take-at, take-take}
-use Rattle.std.proofs.shelf.Tests.{cond-true, eq-eqb, le-leb, lt-ltb}
+use Rattle.std.proofs.shelf.Tests.{cond-true, le-leb, lt-ltb}
 use Rattle.std.specs.declared.result.Result.{Result}
 use Rattle.std.specs.declared.result.Result.the-variants.{Ok, Err}
 use Rattle.names.specs.Names.{all, validPath}
@@ -27,7 +26,7 @@ use Rattle.outbox.specs.Pours.{Poured, Wrote}
 use Rattle.outbox.specs.ReadBack.{ArrayStands, EveryReadsBack, Reader, Reads, ReadsBack, Stands}
 use Rattle.outbox.proofs.Arrays.{after-start, contents-at}
 use Rattle.outbox.proofs.Chains.{drop-written, wrote-size}
-use Rattle.outbox.proofs.Lengths.{length-▹, length-array, length-ended, length-le32, length-pad, length-text, length-word}
+use Rattle.outbox.proofs.Lengths.{length-▹, length-array, length-ended, length-le32, length-pad, length-word}
 
 -- one part and then another
 module _ (msg : Bytes) (at : ℕ) (v w : Part) (a : Stands msg at (v ▹ w)) where

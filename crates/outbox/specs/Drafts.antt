@@ -1,6 +1,6 @@
 -- Marks, drafts and the outbox.
 use mathlib.Core.Bool.{cond}
-use mathlib.Core.List.{List, _++_}
+use mathlib.Core.List.{_++_}
 use mathlib.Core.Path.{_≡_}
 use Prim.Native.Nat.{ℕ, _+_, _-_, _<_, _≤_}
 use denote.Ref.{name}
@@ -37,7 +37,7 @@ pub record Went {T E : Type 0} (d : Draft) (was : Bytes) (e : Draft) (is : Bytes
   pub wrote : Poured (drop (d .start) was) (drafted d) (drop (d .start) is) (reached r (drafted e)) w
   pub below : take (d .start) is ≡ take (d .start) was
   pub size : length is ≡ length was
-  pub fill : Cases r (λ t. e .mark .now .fill ≡ d .start + drafted e) (λ x. e .mark .now .fill ≡ d .mark .now .fill)
+  pub fill : Cases r (λ t. e .mark .now .fill ≡ d .start + drafted e) (λ x. Unit {0})
   pub serial : e .mark .now .serial ≡ d .mark .now .serial
   pub start : e .start ≡ d .start
   pub lent : name (e .mark) ≡ name (d .mark)

@@ -1,11 +1,12 @@
 // The outbox: the caller's bytes, up to where they hold whole messages, and the next serial. A message is written as a draft.
-ghost use denote.Ref.{name};
 ghost use lib.ListN.{drop, length, take};
+ghost use mathlib.Core.Bool.{false};
 ghost use mathlib.Core.Path.{_≡_};
 ghost use Prim.Native.Nat.{min};
 ghost use Rattle.outbox.specs.Drafts.{Grew, Sent, Went, drafted, following, fresh, kept, left};
 ghost use Rattle.outbox.specs.Marshal.{Part, le32, raw};
 ghost use Rattle.outbox.specs.Pours.{Patched, Poured};
+ghost use Rattle.std.specs.Results.{isOk};
 use crate::writing::Full;
 use crate::writing::patch_u32;
 use crate::writing::put_raw;
@@ -62,6 +63,7 @@ impl Drop for Draft<'_> {
 }
 
 impl<'a> Draft<'a> {
+    // A message after what the mark holds. While it stands, the mark is lent to it.
     pub fn begin(mark: &'a mut Mark) -> Draft<'a>
         ensures lent { λ r. ⌜ r .mark ≡ mark .entry ⌝ }
         ensures start { λ r. ⌜ r .start ≡ now (mark .entry) .fill ⌝ }
@@ -91,9 +93,11 @@ impl<'a> Draft<'a> {
         self.mark.fill.saturating_sub(self.start)
     }
 
-    // A part more, of the bytes that the mark is of. Its offset is counted from the message's first byte.
+    // One part more, into the bytes that the mark is of. Its offset is counted from the message's first byte.
+    // Where there is no room, the mark and what stands before the message are as they were.
     pub fn put<M: Marshal>(&mut self, bytes: &mut [u8], value: &M) -> Result<(), Full>
-        ensures { λ r. ⌜ Went (now (self .entry)) (now (bytes .entry)) (now (self .exit)) (now (bytes .exit)) r (part (now (value .entry))) ⌝ }
+        ensures went { λ r. ⌜ Went (now (self .entry)) (now (bytes .entry)) (now (self .exit)) (now (bytes .exit)) r (part (now (value .entry))) ⌝ }
+        ensures stays { λ r. ⌜ (isOk r ≡ false → now (now (self .exit) .mark) .fill ≡ now (now (self .entry) .mark) .fill) ⌝ }
     {
         let at = self.len();
         let from = self.start(bytes);
@@ -103,7 +107,7 @@ impl<'a> Draft<'a> {
         Ok(())
     }
 
-    // The message goes on to an offset, by what was written from its start on.
+    // The message has so many bytes now, which were written from its start on.
     pub fn grow_to(&mut self, bytes: &[u8], len: usize) -> Result<(), Full>
         ensures { λ r. ⌜ Grew (now (self .entry)) (now (bytes .entry)) (now (self .exit)) r len ⌝ }
     {
@@ -147,6 +151,7 @@ pub struct Outbox<'a> {
 }
 
 impl<'a> Outbox<'a> {
+    // It holds nothing, and the first serial is 1.
     pub fn new(bytes: &'a mut [u8]) -> Outbox<'a>
         ensures lent { λ r. ⌜ r .bytes ≡ bytes .entry ⌝ }
         ensures mark { λ r. ⌜ r .mark ≡ fresh ⌝ }

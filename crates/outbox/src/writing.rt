@@ -1,22 +1,21 @@
 // Writing values into lent bytes, little-endian. A place is an offset from the message's first byte, which is the first of the bytes.
-ghost use lib.ListN.{length};
-ghost use mathlib.Core.List.{[], _∷_, List};
-ghost use mathlib.Core.Path.{_≡_};
-ghost use Prim.Native.Nat.{ℕ, _<_, _≤_};
-ghost use Rattle.outbox.specs.Marshal.{_▹_, Bytes, Part, array, contentsAt, ended, le32, openArray, pad, putBool, putI32, putPath, putSignature, putString, putText, putU32, putWord, raw};
+ghost use Prim.Native.Nat.{_<_, _≤_};
+ghost use Rattle.names.specs.Names.{validPath};
+ghost use Rattle.outbox.specs.Marshal.{_▹_, Bytes, Part, array, ended, le32, openArray, pad, putBool, putI32, putPath, putSignature, putString, putText, putU32, putWord, raw};
 ghost use Rattle.outbox.specs.Pours.{Closed, Patched, Poured};
-ghost use Rattle.std.specs.declared.result.Result.the-variants.{Ok};
+ghost use Rattle.outbox.specs.ReadBack.{EveryReadsBack, ReadsBack};
+ghost use Rattle.signature.specs.Signatures.{validSignature};
 ghost use Rattle.std.specs.Results.{isOk};
+ghost use Rattle.std.specs.declared.result.Result.the-variants.{Ok};
+ghost use Rattle.wire.specs.Reading.{boolAt, gap, pathAt, signatureAt, stringAt, u32At};
+ghost use Rattle.wire.specs.Text.{validText};
+ghost use Rattle.wire.specs.declared.reading.ByteOrder.the-variants.{Little};
+ghost use lib.ListN.{length};
 ghost use mathlib.Core.Bool.{false, true};
+ghost use mathlib.Core.List.{[], _∷_};
+ghost use mathlib.Core.Path.{_≡_};
 ghost use mir.Syntax.{w32};
 ghost use mir.Val.{ofZ};
-ghost use Rattle.names.specs.Names.{validPath};
-ghost use Rattle.outbox.specs.ReadBack.{EveryReadsBack, ReadsBack};
-ghost use Rattle.wire.specs.declared.reading.ByteOrder.the-variants.{Little};
-ghost use Rattle.signature.specs.Signatures.{validSignature};
-ghost use Rattle.wire.specs.Text.{validText};
-ghost use Rattle.signature.specs.Codes.{alignOf};
-ghost use Rattle.wire.specs.Reading.{boolAt, gap, pathAt, signatureAt, stringAt, u32At};
 use signature::codes::Code;
 
 // There is no room for what was to be written, or no message may have so much.

@@ -1,4 +1,3 @@
-use borrow.Author.Needs.{needs}
 use Rattle.std.proofs.shelf.Results.{err-from-errBy}
 use Rattle.outbox.specs.Marshal.{le32, putWord, raw}
 use Rattle.outbox.proofs.Chains.{poured-same, poured-stops, poured-then}

@@ -1,7 +1,7 @@
 use mathlib.Core.Path.{_≡_, refl, sym, ap, _∙_}
-use Prim.Native.Nat.{_+_, _-_}
+use Prim.Native.Nat.{ℕ, _+_, _-_}
 use native.Mathlib.Omega.{arith}
-use lib.ListN.{length, drop, take, length-drop, length-take}
+use lib.ListN.{length, drop, length-drop, length-take}
 use Rattle.std.proofs.shelf.Results.{err-from-errBy}
 use Rattle.std.specs.declared.result.Result.the-variants.{Ok}
 use Rattle.outbox.proofs.Lent.{lent-below, lent-part, lent-size, lent-was, poured-at, poured-size}
@@ -18,13 +18,16 @@ returns-in-Break-len g c =
     let e = err-from-errBy (c .from-residual .result) (c .from-residual .ensures .1) in
     rw (e .1)
     (record {
+      stays = λ _. refl;
+      went = record {
       wrote = poured-at _ _ _ _ _ _ _ _ _ (lent-was was ys s from _ (c .start-from .ensures) refl size) (sym (lent-part was ys s from _ (c .start-from .ensures) refl size)) (c .len-at .ensures) refl p;
       below = lent-below was ys s from _ (c .start-from .ensures) refl size;
       size = lent-size was ys s from _ (c .start-from .ensures) refl size;
-      fill = refl;
+      fill = tt;
       serial = refl;
       start = refl;
       lent = refl;
+      };
     })
 
 pub returns : need.returns
@@ -38,6 +41,8 @@ returns g c =
     let size : length ys ≡ length was - from = poured-size _ _ _ _ _ p ∙ omega (arith, length-take (length was - from) (drop from was), length-drop from was) in
     let reached : n ≡ s + n - s = omega arith in
     record {
+      stays = λ f. absurd (let z : _≡_ {A = ℕ} 0 1 = cc in omega arith);
+      went = record {
       wrote = poured-at _ _ _ _ _ _ _ _ _ (lent-was was ys s from _ (c .start-from .ensures) refl size) (sym (lent-part was ys s from _ (c .start-from .ensures) refl size)) (c .len-at .ensures) (ap Ok reached) p;
       below = lent-below was ys s from _ (c .start-from .ensures) refl size;
       size = lent-size was ys s from _ (c .start-from .ensures) refl size;
@@ -45,4 +50,5 @@ returns g c =
       serial = refl;
       start = refl;
       lent = refl;
+      };
     }

@@ -1,5 +1,5 @@
 use mathlib.Core.Path.{_≡_, refl, ap, _∙_}
-use Prim.Native.Nat.{_+_, _-_}
+use Prim.Native.Nat.{_+_}
 use native.Mathlib.Omega.{arith}
 use lib.ListN.{take}
 use Rattle.outbox.specs.Drafts.{drafted, following}
@@ -9,7 +9,7 @@ use Rattle.outbox.proofs.drafts.Outbox.send.Needs as need
 pub returns : need.returns
 returns g c =
     let o = c .args .self .now in
-    let q = c .in-Continue-put .ensures tt in
+    let q = c .in-Continue-put .ensures tt .went in
     let lent = c .begin-draft .ensures .lent in
     let start = c .begin-draft .ensures .start in
     let n = drafted (c .put .last .self) in
