@@ -19,6 +19,7 @@ use Rattle.names.specs.declared.grammar.Invalid.{Invalid}
 use Rattle.names.specs.Names.{Bytes, valid, all, onto, pieces, dot, short, dotted, rooted, elementsOf, pathElement, nameElement, busElement, uniqueElement}
 use Rattle.names.specs.Faults.{Breaks, separates, spells, several, good, fits, Refusal}
 use Rattle.names.specs.Scan.{led}
+use Rattle.names.proofs.Bools.{and-true, and-false}
 use Rattle.names.specs.Buses.{colonFirst, busAlphabet}
 
 -- `outer` is L and then `inner`
@@ -128,10 +129,6 @@ one-piece : (x : Bytes) → pieces (separates Member) x ≡ x ∷ []
 one-piece [] = refl
 one-piece (b ∷ x) = ap (onto b) (one-piece x)
 
-and-true : (b : Bool) → b && true ≡ b
-and-true true = refl
-and-true false = refl
-
 pub member-spells : (x : Bytes) → spells Member x ≡ good Member x
 member-spells x = ap (all nameElement) (one-piece x) ∙ and-true (nameElement x)
 
@@ -157,14 +154,10 @@ valid-parts WellKnown s = refl
 valid-parts Unique s = refl
 
 -- a bus name is of one kind: that of its first byte
-and-none : (b : Bool) → b && false ≡ false
-and-none true = refl
-and-none false = refl
-
 pub no-colon : (s : Bytes) → colonFirst s ≡ false → valid Unique s ≡ false
 unfolding valid
 no-colon [] e = refl
-no-colon (b ∷ s) e = ap (λ t. short (b ∷ s) && (t && dotted uniqueElement s)) e ∙ and-none (short (b ∷ s))
+no-colon (b ∷ s) e = ap (λ t. short (b ∷ s) && (t && dotted uniqueElement s)) e ∙ and-false (short (b ∷ s))
 
 colon-piece : (ps : List Bytes) → all busElement (onto 58 ps) ≡ false
 colon-piece [] = refl
@@ -176,8 +169,8 @@ colon-known [] e = absurd (false≢true e)
 colon-known (b ∷ s) e =
     let is : b ≡ 58 = eqb-true b 58 e in
     rw is (ap (λ t. short (58 ∷ s) && (leb 2 (length (onto 58 (pieces dot s))) && t)) (colon-piece (pieces dot s))
-    ∙ ap (λ t. short (58 ∷ s) && t) (and-none (leb 2 (length (onto 58 (pieces dot s)))))
-    ∙ and-none (short (58 ∷ s)))
+    ∙ ap (λ t. short (58 ∷ s) && t) (and-false (leb 2 (length (onto 58 (pieces dot s)))))
+    ∙ and-false (short (58 ∷ s)))
 
 pub refused-as : (s : Bytes) (e : Invalid) (t : Bool) → colonFirst s ≡ t → Refusal (cond t Unique WellKnown) s e → Refusal (busAlphabet s) s e
 refused-as s e t h r = let P : Bool → Type 0 = λ u. Refusal (cond u Unique WellKnown) s e in subst P (sym h) r

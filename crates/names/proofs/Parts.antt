@@ -14,6 +14,7 @@ use Rattle.names.specs.declared.grammar.Alphabet.{Alphabet}
 use Rattle.names.specs.Names.{Bytes, all, onto, pieces, element}
 use Rattle.names.specs.Faults.{Breaks, separates, opens, goesOn, spells, several}
 use Rattle.names.specs.Scan.{step}
+use Rattle.names.proofs.Bools.{and-false}
 use Rattle.names.proofs.Scans.{run, accepts, joined-run, spells-run, begun, run-end}
 
 module _ (sep : ℕ → Bool) where
@@ -62,10 +63,6 @@ module _ (a : Alphabet) where
       let s : run a (Some true) p ≡ Some false = accepted (run a (Some true) p) (sym (spells-run a p) ∙ e) in
       let g : spells a (p ++ (46 ∷ 97 ∷ [])) ≡ true = joined-run a p s (46 ∷ 97 ∷ []) ∙ ap (accepts a) (gone-on (separates a 46) _ d) in
       rw (le-leb 2 _ (parted (separates a) p 46 (97 ∷ []) d)) g
-
-  and-false : (b : Bool) → b && false ≡ false
-  and-false true = refl
-  and-false false = refl
 
   fewer : (bs : Bytes) → spells a bs ≡ false → several a bs ≡ false
   fewer bs e = ap (λ t. leb 2 (length (pieces (separates a) bs)) && t) e ∙ and-false (leb 2 (length (pieces (separates a) bs)))

@@ -15,6 +15,12 @@ use Rattle.names.specs.declared.grammar.Alphabet.the-variants.{Path, Name, Mem
 use Rattle.names.specs.Names.{Bytes, all, onto, pieces, element}
 use Rattle.names.specs.Faults.{Breaks, separates, opens, goesOn, spells}
 use Rattle.names.specs.Scan.{step}
+use Rattle.names.proofs.Bools.{and-assoc}
+
+pub take-rest : (i : ℕ) (s : Bytes) → take i s ++ drop i s ≡ s
+take-rest zero s = refl
+take-rest (suc i) [] = refl
+take-rest (suc i) (b ∷ s) = ap (λ (r : Bytes). b ∷ r) (take-rest i s)
 
 -- every element may begin with the letter a
 pub begun : (a : Alphabet) → step a true 97 ≡ Some false
@@ -51,10 +57,6 @@ module _ (a : Alphabet) where
   left false [] = true
   left false (e ∷ es) = all (goesOn a) e && all (element (opens a) (goesOn a)) es
 
-  and-assoc : (x y z : Bool) → (x && y) && z ≡ x && (y && z)
-  and-assoc true y z = refl
-  and-assoc false y z = refl
-
   fronted : (f : Bool) (b : ℕ) (ps : List Bytes) → left f (onto b ps) ≡ cond f (opens a b) (goesOn a b) && left false ps
   fronted true b [] = and-assoc (opens a b) true true
   fronted true b (e ∷ es) = and-assoc (opens a b) (all (goesOn a) e) (all (element (opens a) (goesOn a)) es)
@@ -88,11 +90,6 @@ module _ (a : Alphabet) where
   pub run-end : (o : Option Bool) → run o [] ≡ o
   run-end None = refl
   run-end (Some f) = refl
-
-  pub take-rest : (i : ℕ) (s : Bytes) → take i s ++ drop i s ≡ s
-  take-rest zero s = refl
-  take-rest (suc i) [] = refl
-  take-rest (suc i) (b ∷ s) = ap (λ (r : Bytes). b ∷ r) (take-rest i s)
 
   -- what the loop keeps
   pub record Keeps (s : Bytes) (f : Bool) (i : ℕ) : Type 0 where

@@ -2,6 +2,8 @@ ghost use mathlib.Core.Path.{_≡_};
 ghost use Rattle.std.specs.shelf.Text.{sameBytes};
 
 pub mod grammar;
+pub mod object_path;
+pub mod paths;
 pub mod standard;
 pub mod types;
 
