@@ -3,9 +3,10 @@ use mathlib.Core.Path.{_≡_, sym, ap, _∙_}
 use mathlib.Core.Bool.{Bool, true, false, _&&_}
 use mathlib.Core.List.{List}
 use Prim.Native.Nat.{ℕ, _+_, _<_, _≤_}
+use native.Mathlib.Omega.{arith}
 use lib.Dec.{eqb, leb}
 use lib.ListN.{length}
-use Rattle.std.proofs.shelf.Tests.{and-from, and-left, and-right, le-leb, lt-leb}
+use Rattle.std.proofs.shelf.Tests.{and-from, and-left, and-parts, and-right, eqb-true, le-leb, leb-true, lt-leb}
 use Rattle.message.specs.Fixed.{lengthsMeet, raised}
 
 pub and-on : (x y : Bool) → x ≡ true → (x && y) ≡ y
@@ -25,3 +26,10 @@ module _ (msg : List ℕ) (fields body : ℕ) where
   pub fields-long : 67108864 < fields → false ≡ lengthsMeet msg fields body
   unfolding lengthsMeet
   fields-long h = sym (and-left _ _ (and-left _ _ (lt-leb fields 67108864 h)))
+
+  pub meet-inside : true ≡ lengthsMeet msg fields body → (16 + fields ≤ length msg) × (fields ≤ 67108864)
+  unfolding lengthsMeet
+  meet-inside e =
+      let p = and-parts _ _ (sym e) in
+      let q = and-parts (leb fields 67108864) (leb (length msg) 134217728) (p .0) in
+      (omega (arith, eqb-true _ _ (p .1)), leb-true _ _ (q .0))

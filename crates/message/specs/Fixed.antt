@@ -1,7 +1,7 @@
 -- The fixed part of a header: the D-Bus Specification, section "Message Format", the signature "yyyyuua(yv)" as far as the array's length.
 use mathlib.Core.Bool.{Bool, cond, _&&_}
 use mathlib.Core.List.{List}
-use Prim.Native.Nat.{ℕ, _+_}
+use Prim.Native.Nat.{ℕ, _+_, _≤_}
 use lib.Dec.{eqb, leb, ltb}
 use lib.ListN.{getD, length}
 use Rattle.std.specs.declared.option.Option.{Option}
@@ -62,6 +62,10 @@ soundFixed msg =
     bind (wordAt o msg 12) λ fields.
     when (lengthsMeet msg fields body) (
     Some (record { order = o; kind = k; flags = getD msg 2 0; serial = s; «fields_len» = fields }))))
+
+-- the fields lie inside the message
+abbrev pub Inside : List ℕ → FixedPart → Type 0
+Inside msg f = (16 + f .«fields_len» ≤ length msg) × (f .«fields_len» ≤ 67108864)
 
 abbrev pub orBad : Option FixedPart → Result FixedPart HeaderFault
 orBad None = Err BadFixedPart

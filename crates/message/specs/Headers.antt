@@ -11,7 +11,8 @@ use Rattle.std.specs.declared.option.Option.the-variants.{Some, None}
 use Rattle.std.specs.declared.result.Result.{Result}
 use Rattle.std.specs.declared.result.Result.the-variants.{Ok, Err}
 use Rattle.wire.specs.declared.reading.ByteOrder.{ByteOrder}
-use Rattle.wire.specs.Reading.{byteAt}
+use Rattle.wire.specs.declared.reading.Fault.{Fault}
+use Rattle.wire.specs.Reading.{alignAt, byteAt}
 use Rattle.message.specs.declared.fault.HeaderFault.{HeaderFault}
 use Rattle.message.specs.declared.fault.HeaderFault.the-variants.{BadField, NotACall}
 use Rattle.message.specs.declared.field.Field.{Field}
@@ -19,8 +20,12 @@ use Rattle.message.specs.declared.field.FieldCode.{FieldCode}
 use Rattle.message.specs.declared.field.Flaw.{Flaw}
 use Rattle.message.specs.declared.field.Flaw.the-variants.{Twice, BadValue}
 use Rattle.message.specs.declared.fields.Fields.{Fields}
+use Rattle.message.specs.declared.fixed.FixedPart.{FixedPart}
+use Rattle.message.specs.declared.fixed.MessageType.{MessageType}
+use Rattle.message.specs.declared.fixed.MessageType.the-variants.{MethodCall, MethodReturn, Error, Signal, Unknown}
+use Rattle.message.specs.declared.header.Header.{Header}
 use Rattle.message.specs.Fields.{Entry, Value, andOn, codeOf, count, faultOf, fieldCode, knownAt, numberOf, reads, text, unknownAt, valueOf}
-use Rattle.message.specs.Fixed.{raised}
+use Rattle.message.specs.Fixed.{fixedOf, raised}
 
 -- what is found under each code
 abbrev pub Found : Type 0
@@ -94,3 +99,50 @@ foundSeen (Err e) = Err e
 abbrev pub fieldsSeen : Result Fields HeaderFault → Result Found HeaderFault
 fieldsSeen (Ok f) = Ok (look f)
 fieldsSeen (Err e) = Err e
+
+-- what a header says
+pub record HeaderModel : Type 0 where
+  pub order : ByteOrder
+  pub kind : MessageType
+  pub flags : ℕ
+  pub serial : ℕ
+  pub found : Found
+  pub body : List ℕ
+
+abbrev pub andThen : {A B : Type 0} → Result A HeaderFault → (A → Result B HeaderFault) → Result B HeaderFault
+andThen (Ok x) f = f x
+andThen (Err e) f = Err e
+
+-- a part of a header in the fixed part's words, with what was found and where the body begins
+abbrev pub modelOf : FixedPart → Found → List ℕ → HeaderModel
+modelOf f s bs = record { order = f .order; kind = f .kind; flags = f .flags; serial = f .serial; found = s; body = bs }
+
+-- "alignment padding to an 8-boundary" of zeros, then the body
+abbrev pub ended : List ℕ → ℕ → FixedPart → Found → Result ℕ Fault → Result HeaderModel HeaderFault
+ended msg end f found (Ok start) = Ok (modelOf f found (drop start msg))
+ended msg end f found (Err e) = Err (BadField end)
+
+-- The header of a message: the fixed part, the array of fields, the padding. No field goes past the array's end.
+unfoldable pub headerOf : List ℕ → Result HeaderModel HeaderFault
+headerOf msg =
+    andThen (fixedOf msg) λ f.
+    andThen (fieldsOf (f .order) (take (16 + f .«fields_len») msg)) λ found.
+    ended msg (16 + f .«fields_len») f found (alignAt 8 msg (16 + f .«fields_len»))
+
+abbrev pub ofCall : HeaderModel → MessageType → Result HeaderModel HeaderFault
+ofCall h MethodCall = Ok h
+ofCall h MethodReturn = Err NotACall
+ofCall h Error = Err NotACall
+ofCall h Signal = Err NotACall
+ofCall h (Unknown b) = Err NotACall
+
+-- the same of a call, the last refusal
+unfoldable pub callOf : List ℕ → Result HeaderModel HeaderFault
+callOf msg = andThen (headerOf msg) λ h. ofCall h (h .kind)
+
+abbrev pub model : Header → HeaderModel
+model h = modelOf (h .fixed) (look (h .fields)) (h .body .now)
+
+abbrev pub headerSeen : Result Header HeaderFault → Result HeaderModel HeaderFault
+headerSeen (Ok h) = Ok (model h)
+headerSeen (Err e) = Err e

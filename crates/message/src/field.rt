@@ -22,7 +22,11 @@ const BUS: &[u8] = b"org.freedesktop.DBus";
 
 // What is left of 64 levels inside the array of fields, a field's structure and its variant. How many arrays and structures
 // there may be is counted in each signature.
-const FIELD_LEVELS: Levels = Levels { arrays: 61, structures: 61, all: 61 };
+const FIELD_LEVELS: Levels = Levels {
+    arrays: 61,
+    structures: 61,
+    all: 61,
+};
 
 // A field of a message. What is text is a part of the message.
 #[derive(Clone, Copy)]

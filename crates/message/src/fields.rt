@@ -5,7 +5,7 @@ ghost use lib.ListN.{length};
 ghost use Rattle.std.specs.Options.{isSome};
 ghost use Rattle.std.specs.declared.option.Option.the-variants.{None};
 ghost use Rattle.message.specs.Fields.{After, numberOf, textNumber};
-ghost use Rattle.message.specs.Headers.{entered, fieldAt, fieldsOf, fieldsSeen, foundSeen, look, noted};
+ghost use Rattle.message.specs.Headers.{entered, enteredAll, fieldAt, fieldsOf, fieldsSeen, foundSeen, look, noted};
 use crate::fault::HeaderFault;
 use crate::field::Field;
 use crate::field::FieldCode;
@@ -90,4 +90,58 @@ impl<'m> Fields<'m> {
             Field::UnixFds(n) => self.unix_fds = Some(n),
         }
     }
+
+    // Takes in what was found, if its code was known.
+    fn note(&mut self, found: Option<Field<'m>>)
+        ensures { λ _. ⌜ ((k : ℕ) → look (now (self .exit)) k ≡ noted (enteredAll (found .entry)) (look (now (self .entry))) k) ⌝ }
+    {
+        match found {
+            Some(field) => self.put(field),
+            None => {}
+        }
+    }
+}
+
+// One field after those that were read; none, if its code is unknown.
+fn read_field<'m>(
+    area: &'m [u8],
+    order: ByteOrder,
+    fields: &Fields<'m>,
+    at: usize,
+) -> Result<(Option<Field<'m>>, usize), Flaw>
+    requires { ⌜ at < 4294967296 ⌝ }
+    ensures value { λ r. ⌜ foundSeen r ≡ fieldAt order (now (area .entry)) (look (now (fields .entry))) at ⌝ }
+    ensures within { λ r. ⌜ After (now (area .entry)) at r ⌝ }
+{
+    let Ok((byte, variant)) = read_byte(area, raise(at)) else {
+        return Err(Flaw::BadValue);
+    };
+    let Some(code) = FieldCode::from_byte(byte) else {
+        let end = skip_field(area, order, byte, at, variant)?;
+        return Ok((None, end));
+    };
+    if fields.has(code) {
+        return Err(Flaw::Twice);
+    }
+    let (field, end) = known_field(area, order, code, at, variant)?;
+    Ok((Some(field), end))
+}
+
+// The fields of a header, which is this long without the padding at its end.
+pub(crate) fn read_fields<'m>(area: &'m [u8], order: ByteOrder) -> Result<Fields<'m>, HeaderFault>
+    requires { ⌜ length (now area) < 4294967296 ⌝ }
+    ensures { λ r. ⌜ fieldsSeen r ≡ fieldsOf order (now (area .entry)) ⌝ }
+{
+    let mut fields = Fields::none();
+    let mut at = FIXED_LEN;
+    while at < area.len() {
+        match read_field(area, order, &fields, at) {
+            Ok((found, end)) => {
+                fields.note(found);
+                at = end;
+            }
+            Err(flaw) => return Err(flaw.at(raise(at))),
+        }
+    }
+    Ok(fields)
 }

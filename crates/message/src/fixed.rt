@@ -3,14 +3,14 @@ ghost use mathlib.Core.Path.{_≡_};
 ghost use Prim.Native.Nat.{_+_, _<_, _≤_};
 ghost use lib.ListN.{length};
 ghost use Rattle.std.specs.Options.{Cases as BySome};
-ghost use Rattle.std.specs.Results.{Cases};
-ghost use Rattle.message.specs.Fixed.{fixedOf, lengthsMeet, messageType, orderOf, raised, soundFixed, wordAt};
+ghost use Rattle.std.specs.Vec.{made};
+ghost use Rattle.message.specs.Fixed.{Inside, fixedOf, lengthsMeet, messageType, orderOf, raised, soundFixed, wordAt};
 use crate::fault::HeaderFault;
 use wire::reading::ByteOrder;
 use wire::reading::read_u32;
 
 // The bytes of the fixed part.
-pub const FIXED_LEN: usize = 16;
+pub(crate) const FIXED_LEN: usize = 16;
 // An array has at most 2^26 bytes.
 const MAX_FIELDS: u32 = 67108864;
 // A message has at most 2^27 bytes.
@@ -45,16 +45,16 @@ impl MessageType {
 
 // What the fixed part says.
 #[derive(Clone, Copy)]
-pub struct FixedPart {
-    pub order: ByteOrder,
-    pub kind: MessageType,
-    pub flags: u8,
-    pub serial: u32,
-    pub fields_len: u32,
+pub(crate) struct FixedPart {
+    pub(crate) order: ByteOrder,
+    pub(crate) kind: MessageType,
+    pub(crate) flags: u8,
+    pub(crate) serial: u32,
+    pub(crate) fields_len: u32,
 }
 
 // The next multiple of 8.
-pub fn raise(at: usize) -> usize
+pub(crate) fn raise(at: usize) -> usize
     requires { ⌜ at < 4294967296 ⌝ }
     ensures value { λ r. ⌜ r ≡ raised at ⌝ }
     ensures near { λ r. ⌜ at ≤ r ⌝ ∗ ⌜ r < at + 8 ⌝ }
@@ -95,7 +95,8 @@ impl FixedPart {
     // The fixed part, if nothing in it is wrong.
     fn sound(message: &[u8]) -> Option<FixedPart>
         requires { ⌜ 16 ≤ length (now message) ⌝ }
-        ensures { λ r. ⌜ r ≡ soundFixed (now (message .entry)) ⌝ }
+        ensures value { λ r. ⌜ r ≡ soundFixed (now (message .entry)) ⌝ }
+        ensures within { λ r. ⌜ BySome r (Unit {0}) (Inside (now (message .entry))) ⌝ }
     {
         let [order, kind, flags, version, ..] = message else {
             return None;
@@ -114,11 +115,19 @@ impl FixedPart {
         if !lengths_meet(message, fields_len, body_len) {
             return None;
         }
-        Some(FixedPart { order, kind, flags: *flags, serial, fields_len })
+        Some(FixedPart {
+            order,
+            kind,
+            flags: *flags,
+            serial,
+            fields_len,
+        })
     }
 
-    pub fn read(message: &[u8]) -> Result<FixedPart, HeaderFault>
-        ensures { λ r. ⌜ r ≡ fixedOf (now (message .entry)) ⌝ }
+    // The fixed part of a message of any type.
+    pub(crate) fn read(message: &[u8]) -> Result<FixedPart, HeaderFault>
+        ensures value { λ r. ⌜ r ≡ fixedOf (now (message .entry)) ⌝ }
+        ensures within { λ r. ⌜ made r (Inside (now (message .entry))) ⌝ }
     {
         if message.len() < FIXED_LEN {
             return Err(HeaderFault::ShortMessage);

@@ -3,3 +3,4 @@ pub mod fault;
 pub mod field;
 mod fields;
 pub mod fixed;
+pub mod header;
