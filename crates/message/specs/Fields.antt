@@ -1,4 +1,4 @@
--- One header field: the D-Bus Specification, section "Message Format", "Header Fields".
+-- One header field: the D-Bus Specification, section "Header Fields", and its table.
 use mathlib.Core.Bool.{Bool, true, false, cond, _||_}
 use mathlib.Core.List.{List, [], _∷_}
 use Prim.Native.Nat.{ℕ, _<_, _≤_}
@@ -43,7 +43,7 @@ textAs bs = text bs
 abbrev pub countAs : ℕ → Value
 countAs n = count n
 
--- The table of header fields. Column "Decimal Code":
+-- Column "Decimal Code" of the table.
 abbrev pub textNumber : TextCode → ℕ
 textNumber Path = 1
 textNumber Interface = 2
@@ -91,7 +91,7 @@ typeOf (Number c) = 117
 unfoldable pub validSender : List ℕ → Bool
 validSender bs = validUnique bs || sameBytes bs (codes "org.freedesktop.DBus")
 
--- what a text of the type has to be besides, column "Description"
+-- what a text of the type has to be besides: a name of the field's kind
 abbrev pub allowed : TextCode → List ℕ → Bool
 allowed Path bs = true
 allowed Interface bs = validInterface bs
@@ -156,11 +156,13 @@ unfoldable pub knownAt : FieldCode → ByteOrder → List ℕ → ℕ → ℕ �
 knownAt c order area at variant =
     andOn (typedAt c area variant) λ start. cond (padded area at) (valueIn c order area start) (Err BadValue)
 
--- The levels left inside an array, a structure and a variant, of 64; arrays and structures are counted in each signature.
+-- "a total message depth" of 64: the array of fields, a field's structure and its variant are three. How many arrays and
+-- structures there may be is counted in each signature, and so sets no limit of its own here.
 abbrev pub inField : Levels
 inField = left 61 61 61
 
--- A field of another code: 0 is "not a valid field name"; of another one it is asked that it is well-formed.
+-- A field of another code. 0 is "Not a valid field name (error if it appears in a message)". Any other is accepted and ignored,
+-- and "must still be well-formed" ("Invalid Protocol and Spec Extensions").
 unfoldable pub unknownAt : ℕ → ByteOrder → List ℕ → ℕ → ℕ → Result ℕ Flaw
 unknownAt b order area at variant =
     cond (eqb b 0) (Err BadValue)
@@ -200,7 +202,7 @@ After area at r = Cases r (λ x. (at < x .1) × (x .1 ≤ length area)) (λ e. U
 abbrev pub Further : List ℕ → ℕ → Result ℕ Flaw → Type 0
 Further area at r = Cases r (λ p. (at < p) × (p ≤ length area)) (λ e. Unit {0})
 
--- all flaws are one refusal
+-- Each flaw of the field with its code byte at this place is the one refusal.
 abbrev pub faultOf : Flaw → ℕ → HeaderFault
 faultOf Twice place = BadField place
 faultOf WrongType place = BadField place

@@ -1,4 +1,5 @@
--- The fixed part of a header: the D-Bus Specification, section "Message Format", the signature "yyyyuua(yv)" as far as the array's length.
+-- The fixed part of a header: the D-Bus Specification, section "Message Format". A header's signature is "yyyyuua(yv)"; its
+-- fixed part is what stands before the array's first field, sixteen bytes.
 use mathlib.Core.Bool.{Bool, cond, _&&_}
 use mathlib.Core.List.{List}
 use Prim.Native.Nat.{ℕ, _+_, _≤_}
@@ -27,7 +28,7 @@ raised at = at + gap 8 at
 abbrev pub orderOf : ℕ → Option ByteOrder
 orderOf b = cond (eqb b 108) (Some Little) (cond (eqb b 66) (Some Big) None)
 
--- 2nd BYTE: "Unknown types must be ignored"; 0 is "an invalid type"
+-- 2nd BYTE: "Unknown types must be ignored"; of 0: "This is an invalid type."
 abbrev pub messageType : ℕ → Option MessageType
 messageType b =
     cond (eqb b 0) None
@@ -41,16 +42,16 @@ valueIn (Err e) = None
 abbrev pub wordAt : ByteOrder → List ℕ → ℕ → Option ℕ
 wordAt order msg at = valueIn (u32At order msg at)
 
--- "The header ends after its alignment padding to an 8-boundary", then comes the body, and both end where the message does. An
--- array has at most 2 to the 26th power bytes, a message 2 to the 27th.
+-- "The header ends after its alignment padding to an 8-boundary", then comes the body, which ends where the message does. An
+-- array has at most 2 to the 26th power bytes, a message 2 to the 27th power.
 unfoldable pub lengthsMeet : List ℕ → ℕ → ℕ → Bool
 lengthsMeet msg fields body = leb fields 67108864 && leb (length msg) 134217728 && eqb (raised (16 + fields) + body) (length msg)
 
 abbrev pub when : {A : Type 0} → Bool → Option A → Option A
 when b o = cond b o None
 
--- The four bytes are order, type, flags and version (1), the numbers the body's length, the serial ("must not be zero") and
--- the length of the array of fields.
+-- The four bytes are order, type, flags ("Unknown flags must be ignored") and version, which is 1; the numbers are the body's
+-- length, the serial ("This must not be zero") and the length of the array of fields.
 unfoldable pub soundFixed : List ℕ → Option FixedPart
 soundFixed msg =
     bind (orderOf (getD msg 0 0)) λ o.

@@ -39,13 +39,14 @@ abbrev pub noted : Option Entry → Found → Found
 noted None found k = found k
 noted (Some f) found k = cond (eqb k (f .0)) (Some (f .1)) (found k)
 
--- one field, of a code that is unknown or known; "a known field twice" is one that is found already
+-- One field by its code, after its code byte and the place of its variant. A known one is bad when it was found already.
 abbrev pub byCode : ByteOrder → List ℕ → Found → ℕ → ℕ × ℕ → Option FieldCode → Result (Option Entry × ℕ) Flaw
 byCode order area found at b None = andOn (unknownAt (b .0) order area at (b .1)) λ end. Ok (None, end)
 byCode order area found at b (Some c) =
     cond (isSome (found (numberOf c))) (Err Twice) (andOn (knownAt c order area at (b .1)) λ f. Ok (Some (f .0), f .1))
 
--- One field after a place: "an array of structs", each on a boundary of 8, of "BYTE, VARIANT".
+-- One field after a place: a STRUCT, so on a boundary of 8, "where the byte is the field code, and the variant is the field
+-- value". It gives what is found, nothing if the code is unknown, and the place after the field.
 unfoldable pub fieldAt : ByteOrder → List ℕ → Found → ℕ → Result (Option Entry × ℕ) Flaw
 fieldAt order area found at = reads BadValue (byteAt area (raised at)) λ b. byCode order area found at b (fieldCode (b .0))
 
@@ -113,7 +114,6 @@ abbrev pub andThen : {A B : Type 0} → Result A HeaderFault → (A → Result B
 andThen (Ok x) f = f x
 andThen (Err e) f = Err e
 
--- a part of a header in the fixed part's words, with what was found and where the body begins
 abbrev pub modelOf : FixedPart → Found → List ℕ → HeaderModel
 modelOf f s bs = record { order = f .order; kind = f .kind; flags = f .flags; serial = f .serial; found = s; body = bs }
 

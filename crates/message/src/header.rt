@@ -74,7 +74,7 @@ impl<'m> Header<'m> {
     pub fn no_reply_expected(&self) -> bool
         ensures { λ r. ⌜ r ≡ eqb (bitAnd (model (now (self .entry)) .flags) 1) 1 ⌝ }
     {
-        self.fixed.flags & NO_REPLY_EXPECTED == NO_REPLY_EXPECTED
+        self.flags() & NO_REPLY_EXPECTED == NO_REPLY_EXPECTED
     }
 
     pub fn serial(&self) -> u32
