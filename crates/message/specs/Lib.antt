@@ -1,0 +1,4 @@
+pub mod Faults
+pub mod Fixed
+pub mod Fields
+pub mod Headers
