@@ -1,0 +1,3 @@
+// What an object manager tells: signals, the sinks that take them, and their bodies.
+pub mod list;
+pub mod sink;
