@@ -129,11 +129,11 @@ module _ (was bytes is : Bytes) (s e : ℕ) (u : Part) (code : Code) (w : Part) 
       let q = s + length (u s) in
       let at : q + length (pad code q) ≡ s + length (u s ++ pad code q) = omega (arith, length-append (u s) (pad code q)) in
       let size : length (around m) ≡ length (around n) =
-        omega (arith, length-append (u s ++ pad code q) (le32 m ++ w (q + length (pad code q) + 4)), length-append (le32 m) (w (q + length (pad code q) + 4)), length-append (u s ++ pad code q) (le32 n ++ w (q + length (pad code q) + 4)), length-append (le32 n) (w (q + length (pad code q) + 4)), length-le32 m, length-le32 n) in
+      omega (arith, length-append (u s ++ pad code q) (le32 m ++ w (q + length (pad code q) + 4)), length-append (le32 m) (w (q + length (pad code q) + 4)), length-append (u s ++ pad code q) (le32 n ++ w (q + length (pad code q) + 4)), length-append (le32 n) (w (q + length (pad code q) + 4)), length-le32 m, length-le32 n) in
       record {
         bytes =
-          p ∙ ap (λ k. written bytes k (le32 n)) at ∙ ap (λ l. written l (s + length (u s ++ pad code q)) (le32 n)) (a .bytes ∙ ap (written was s) (split-at m))
-          ∙ patched was s (u s ++ pad code q) (le32 m) _ (le32 n) (omega (arith, a .ends, a .fits)) (length-le32 m ∙ sym (length-le32 n)) ∙ ap (written was s) (sym (split-at n));
+            p ∙ ap (λ k. written bytes k (le32 n)) at ∙ ap (λ l. written l (s + length (u s ++ pad code q)) (le32 n)) (a .bytes ∙ ap (written was s) (split-at m))
+            ∙ patched was s (u s ++ pad code q) (le32 m) _ (le32 n) (omega (arith, a .ends, a .fits)) (length-le32 m ∙ sym (length-le32 n)) ∙ ap (written was s) (sym (split-at n));
         ends = a .ends ∙ omega (arith, ap length (split-at m), ap length (split-at n));
         fits = a .fits;
       }

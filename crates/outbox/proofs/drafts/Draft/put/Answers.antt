@@ -20,13 +20,13 @@ returns-in-Break-len g c =
     (record {
       stays = λ _. refl;
       went = record {
-      wrote = poured-at _ _ _ _ _ _ _ _ _ (lent-was was ys s from _ (c .start-from .ensures) refl size) (sym (lent-part was ys s from _ (c .start-from .ensures) refl size)) (c .len-at .ensures) refl p;
-      below = lent-below was ys s from _ (c .start-from .ensures) refl size;
-      size = lent-size was ys s from _ (c .start-from .ensures) refl size;
-      fill = tt;
-      serial = refl;
-      start = refl;
-      lent = refl;
+        wrote = poured-at _ _ _ _ _ _ _ _ _ (lent-was was ys s from _ (c .start-from .ensures) refl size) (sym (lent-part was ys s from _ (c .start-from .ensures) refl size)) (c .len-at .ensures) refl p;
+        below = lent-below was ys s from _ (c .start-from .ensures) refl size;
+        size = lent-size was ys s from _ (c .start-from .ensures) refl size;
+        fill = tt;
+        serial = refl;
+        start = refl;
+        lent = refl;
       };
     })
 
@@ -43,12 +43,12 @@ returns g c =
     record {
       stays = λ f. absurd (let z : _≡_ {A = ℕ} 0 1 = cc in omega arith);
       went = record {
-      wrote = poured-at _ _ _ _ _ _ _ _ _ (lent-was was ys s from _ (c .start-from .ensures) refl size) (sym (lent-part was ys s from _ (c .start-from .ensures) refl size)) (c .len-at .ensures) (ap Ok reached) p;
-      below = lent-below was ys s from _ (c .start-from .ensures) refl size;
-      size = lent-size was ys s from _ (c .start-from .ensures) refl size;
-      fill = ap (λ k. s + k) reached;
-      serial = refl;
-      start = refl;
-      lent = refl;
+        wrote = poured-at _ _ _ _ _ _ _ _ _ (lent-was was ys s from _ (c .start-from .ensures) refl size) (sym (lent-part was ys s from _ (c .start-from .ensures) refl size)) (c .len-at .ensures) (ap Ok reached) p;
+        below = lent-below was ys s from _ (c .start-from .ensures) refl size;
+        size = lent-size was ys s from _ (c .start-from .ensures) refl size;
+        fill = ap (λ k. s + k) reached;
+        serial = refl;
+        start = refl;
+        lent = refl;
       };
     }
