@@ -159,7 +159,7 @@ knownAt c order area at variant =
 -- "a total message depth" of 64: the array of fields, a field's structure and its variant are three. How many arrays and
 -- structures there may be is counted in each signature, and so sets no limit of its own here.
 abbrev pub inField : Levels
-inField = left 61 61 61
+inField = left 32 32 61
 
 -- A field of another code. 0 is "Not a valid field name (error if it appears in a message)". Any other is accepted and ignored,
 -- and "must still be well-formed" ("Invalid Protocol and Spec Extensions").

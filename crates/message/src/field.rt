@@ -20,11 +20,11 @@ use wire::reading::read_u32;
 // The name of the bus, under which it sends.
 const BUS: &[u8] = b"org.freedesktop.DBus";
 
-// What is left of 64 levels inside the array of fields, a field's structure and its variant. How many arrays and structures
-// there may be is counted in each signature.
+// A field's value may have 32 arrays and 32 structures inside one another. Of the 64 levels of a message the array of
+// fields, the field's structure and its variant are three.
 const FIELD_LEVELS: Levels = Levels {
-    arrays: 61,
-    structures: 61,
+    arrays: 32,
+    structures: 32,
     all: 61,
 };
 
