@@ -1,3 +1,4 @@
+pub mod Examples
 pub mod Heads
 pub mod Lengths
 pub mod Steps
