@@ -1,2 +1,4 @@
 pub mod Signals
 pub mod Lists
+pub mod Bodies
+pub mod Readable
