@@ -10,7 +10,7 @@ use Rattle.std.specs.declared.result.Result.the-variants.{Ok, Err}
 use Rattle.names.specs.Names.{valid}
 use Rattle.signature.specs.Codes.{alignOf, codeOf}
 use Rattle.signature.specs.Depth.{full}
-use Rattle.signature.specs.Signatures.{firstEnd, single, typeEnd, validSignature}
+use Rattle.signature.specs.Signatures.{single, typeEnd, validSignature}
 use Rattle.wire.specs.Reading.{alignAt, endedAt, fixedAt, gap, pathAt, signatureAt, textAt, u32At}
 use Rattle.skip.specs.Values.{valueAt, valueEnd}
 use Rattle.message.specs.declared.fault.HeaderFault.{HeaderFault}
@@ -54,5 +54,5 @@ examples :
     ∷ Ok (Some (text (codes "/a")) ∷ None ∷ None ∷ None ∷ [])
     ∷ Err (BadField 32) ∷ Err (BadField 32) ∷ Err (BadField 32) ∷ Err (BadField 32) ∷ Err (BadField 32)
     ∷ Err (BadField 32) ∷ Err BadFixedPart ∷ Err BadFixedPart ∷ Err BadFixedPart ∷ Err NotACall ∷ Err (BadField 32) ∷ []
-unfolding callOf headerOf fixedOf soundFixed lengthsMeet fieldsOf fieldAt knownAt unknownAt valueIn numberValue textValue padded typedAt gap alignAt fixedAt u32At pathAt signatureAt textAt endedAt validSignature single firstEnd typeEnd codeOf alignOf full valid valueAt valueEnd
+unfolding callOf headerOf fixedOf soundFixed lengthsMeet fieldsOf fieldAt knownAt unknownAt valueIn numberValue textValue padded typedAt gap alignAt fixedAt u32At pathAt signatureAt textAt endedAt validSignature single typeEnd codeOf alignOf full valid valueAt valueEnd
 examples = refl
