@@ -1,4 +1,5 @@
 // Piles of several shapes that hold a Delay and then a Tuner: each has the same numbers, and answers alike.
+#![tactic(auto)]
 
 #[cfg(test)]
 mod tests {

@@ -1,3 +1,5 @@
+#![tactic(auto)]
+
 pub mod delay;
 pub mod delay_interface;
 pub mod interface;

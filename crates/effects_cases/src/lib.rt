@@ -1,4 +1,5 @@
 // Both makes of interface, at every property, method and refusal.
+#![tactic(auto)]
 
 #[cfg(test)]
 mod tests {

@@ -6,6 +6,8 @@
 // The others are made by hand, in both byte orders: each field well and badly, unknown fields of many types, paddings,
 // and damaged copies of one call, cut at each length, with each length off by one and with each byte changed. All verdicts
 // are those of a reader of its own, written from the rules and not from this code.
+#![tactic(auto)]
+
 use message::fault::HeaderFault;
 use message::header::Header;
 use std::alloc::{AllocError, Global};

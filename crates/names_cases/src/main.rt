@@ -1,6 +1,8 @@
 // Runs a table of names from standard input. A line is a kind of name, the verdict that is expected ("ok" or the place
 // of the fault), and the text, in which \xNN stands for a byte. Prints the lines whose verdict is another, and how
 // many there were.
+#![tactic(auto)]
+
 use names::grammar::Invalid;
 use names::object_path::ObjectPath;
 use names::types::{BusName, ErrorName, InterfaceName, MemberName, UniqueName, WellKnownName};

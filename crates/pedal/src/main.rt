@@ -1,5 +1,7 @@
 // Reads a chain plan from standard input and says of each line whether it can be placed by its names; then shows the
 // effects that the pedal has.
+#![tactic(auto)]
+
 mod bank;
 
 use bank::show_bank;

@@ -1,4 +1,6 @@
 // A plan of a chain of effects: which of its lines can be placed by their names, and if not, why and where.
+#![tactic(auto)]
+
 ghost use Rattle.std.specs.Prelude.{◌≡◌, ◌<◌, false, length, is_ok, IfOk, IfErr};
 ghost use Rattle.names.specs.Paths.{makeable};
 ghost use Rattle.plan.specs.Plans.{what_of, placeable, Unmakeable, limit_at, Told};

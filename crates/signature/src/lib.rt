@@ -1,4 +1,6 @@
 // Signatures: whether bytes are one, and where their first single complete type ends.
+#![tactic(auto)]
+
 ghost use Rattle.std.specs.Prelude.{◌≡◌, false, slice_index};
 ghost use Rattle.signature.specs.Signatures.{Inside, first_end, type_end, fields_end, entry_end, valid_signature, single};
 

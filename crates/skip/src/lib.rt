@@ -1,4 +1,6 @@
 // Past a value of any type, whatever stands inside it, by the rules that reading has.
+#![tactic(auto)]
+
 ghost use Rattle.std.specs.Prelude.{◌≡◌, ◌+◌, ◌<◌, IfSome};
 ghost use Rattle.wire.specs.Reading.{Grown};
 ghost use Rattle.signature.specs.Signatures.{Inside};
