@@ -92,9 +92,9 @@ closes was bytes is s e code (Err x) w p a =
     absurd (omega (arith, ends was bytes is s e code w a.by, a.by.fits, wrote-size was bytes s e _ a.by, p.by.1 (omega (arith, ends was bytes is s e code w a.by))))
 
 -- the places that the code counts out
-module _ (code : Code) (s a b before past : ℕ) (is-a : a ≡ align_of Array) (is_b : b ≡ align_of code) (is-before : before ≡ gap a s) (is-past : past ≡ gap b (s + before + 4)) where
+module _ (code : Code) (s a b before past : ℕ) (is-a : a ≡ align_of Array) (is_b : b ≡ align_of code) (is_before : before ≡ gap a s) (is-past : past ≡ gap b (s + before + 4)) where
   pub hole-at : s + before ≡ s + length (pad Array s)
-  hole-at = ap (λ n. s + n) (is-before ∙ ap (λ n. gap n s) is-a ∙ sym (length-pad Array s))
+  hole-at = ap (λ n. s + n) (is_before ∙ ap (λ n. gap n s) is-a ∙ sym (length-pad Array s))
 
   pub contents-is : s + before + 4 + past ≡ contents_at code s
   contents-is =

@@ -7,12 +7,12 @@ pub loop-i-init : goal.loop-i-init
 unfolding makeable
 loop-i-init c = refl
 
-pub returns-then-not-is-makeable : goal.returns-then-not-is-makeable
-returns-then-not-is-makeable c =
-    record { within = c.loop-i-test.true; kept = c.loop-i.invariant; broken = simp sub-zero at (sym c.if-not-is-makeable.ensures) }
+pub returns-then-not-is_makeable : goal.returns-then-not-is_makeable
+returns-then-not-is_makeable c =
+    record { within = c.loop-i-test.true; kept = c.loop-i.invariant; broken = simp sub-zero at (sym c.if-not-is_makeable.ensures) }
 
 pub loop-i-preserved : goal.loop-i-preserved
-loop-i-preserved c = simp sub-zero at (sym c.if-not-is-makeable.ensures)
+loop-i-preserved c = simp sub-zero at (sym c.if-not-is_makeable.ensures)
 
 pub unreachable-requires : goal.unreachable-requires
 unreachable-requires c =

@@ -4,15 +4,15 @@ use Rattle.signature.proofs.Runs.{begun, next, halts}
 use Rattle.signature.proofs.Types.{as-listed, list-end, list-none, list_on, too_long}
 use Rattle.signature.proofs.is_signature.Goals as goal
 
-pub returns-then-signature-gt-MAX-LEN : goal.returns-then-signature-gt-MAX-LEN
-returns-then-signature-gt-MAX-LEN c = too_long c.args.signature.now (omega arith)
+pub returns-then-signature-gt-MAX_LEN : goal.returns-then-signature-gt-MAX_LEN
+returns-then-signature-gt-MAX_LEN c = too_long c.args.signature.now (omega arith)
 
 pub loop-at-init : goal.loop-at-init
 loop-at-init c = (omega arith, begun _ _ (length c.args.signature.now) 0 (omega arith))
 
-pub returns-in-default : goal.returns-in-default
-returns-in-default c =
-    let none = c.in-default.ensures.value ∙ ap (λ l. type_end c.args.signature.now false l c.loop-at.at) c.full.ensures in
+pub returns-in_default : goal.returns-in_default
+returns-in_default c =
+    let none = c.in_default.ensures.value ∙ ap (λ l. type_end c.args.signature.now false l c.loop-at.at) c.full.ensures in
     as-listed c.args.signature.now None (halts _ _ _ c.loop-at.invariant.1 (list-none c.args.signature.now c.loop-at.at c.loop-at-test.true none)) (omega arith)
 
 pub loop-at-preserved : goal.loop-at-preserved

@@ -2,11 +2,11 @@ use Rattle.std.proofs.Common.{◌≡◌, ◌<◌, [], length, refl, arith, rules
 use Rattle.names.proofs.Leads.{path-led, breaks-first, breaks-led, good-led, breaks-tail, spells-tail, tail_none}
 use Rattle.names.proofs.grammar.path_flaw.Goals as goal
 
-pub returns-in-default : goal.returns-in-default
-returns-in-default c = breaks-first path-led c.args.s.now c.in-default.ensures [] refl
+pub returns-in_default : goal.returns-in_default
+returns-in_default c = breaks-first path-led c.args.s.now c.in_default.ensures [] refl
 
-pub returns-then-is-empty : goal.returns-then-is-empty
-returns-then-is-empty c =
+pub returns-then-is_empty : goal.returns-then-is_empty
+returns-then-is_empty c =
     let none : length c.in-Some.rest.now ≡ 0 = search rules in
     good-led path-led c.args.s.now c.in-Some.rest.now c.in-Some.ensures (tail_none c.in-Some.rest.now none)
 

@@ -5,8 +5,8 @@ use Rattle.names.proofs.paths.is_beneath.Goals as goal
 
 pub returns-in-Some : goal.returns-in-Some
 returns-in-Some c =
-    let e : c.goes-deeper.result ≡ is_beneath c.args.above.now c.args.path.now =
-    c.goes-deeper.ensures ∙ ap deeper (c.in-Some.ensures ∙ ap (λ u. following u c.args.path.now) c.stem.ensures) in
+    let e : c.goes_deeper.result ≡ is_beneath c.args.above.now c.args.path.now =
+    c.goes_deeper.ensures ∙ ap deeper (c.in-Some.ensures ∙ ap (λ u. following u c.args.path.now) c.stem.ensures) in
     record { bytes = e; elements = λ h k. e ∙ beneath-elements c.args.above.now c.args.path.now h k }
 
 pub returns-in-None : goal.returns-in-None

@@ -6,8 +6,8 @@ use Rattle.names.proofs.paths.last_element.Goals as goal
 pub returns-then-same : goal.returns-then-same
 returns-then-same c = let t = last-root c.args.path.now c.if-same.ensures in record { bytes = t.bytes; elements = t.elements }
 
-pub returns-in-default : goal.returns-in-default
-returns-in-default c = let t = last_none c.args.path.now c.if-same.ensures c.in-default.ensures in record { bytes = t.bytes; elements = t.elements }
+pub returns-in_default : goal.returns-in_default
+returns-in_default c = let t = last_none c.args.path.now c.if-same.ensures c.in_default.ensures in record { bytes = t.bytes; elements = t.elements }
 
 pub returns : goal.returns
 returns c =

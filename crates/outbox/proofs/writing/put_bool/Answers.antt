@@ -6,5 +6,5 @@ use Rattle.outbox.proofs.writing.put_bool.Goals as goal
 
 pub returns : goal.returns
 returns c =
-    let wrote : Poured c.args.bytes.now c.args.from c.put-word.new.bytes c.put-word.result (put_bool c.args.b) = search rules in
+    let wrote : Poured c.args.bytes.now c.args.from c.put_word.new.bytes c.put_word.result (put_bool c.args.b) = search rules in
     record { wrote = wrote; reads = reads-back _ _ _ _ _ _ _ (bool-reads c.args.b) wrote }

@@ -10,7 +10,7 @@ pub returns : goal.returns
 unfolding align_of
 returns c =
     let bits = of_z w32 c.args.n in
-    let e : c.cast-unsigned.result ≡ bits = search rules in
+    let e : c.cast_unsigned.result ≡ bits = search rules in
     let lt : bits < 2 ^ 32 = omega arith in
-    let wrote : Poured c.args.bytes.now c.args.from c.put-word.new.bytes c.put-word.result (put_i32 c.args.n) = search rules in
+    let wrote : Poured c.args.bytes.now c.args.from c.put_word.new.bytes c.put_word.result (put_i32 c.args.n) = search rules in
     record { wrote = wrote; reads = reads-back _ _ _ _ _ _ _ (word-reads Int32 bits refl lt) wrote }

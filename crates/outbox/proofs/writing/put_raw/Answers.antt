@@ -5,7 +5,7 @@ use Rattle.outbox.proofs.writing.put_raw.Goals as goal
 use Rattle.outbox.proofs.writing.put_raw.Goals.{else-from-room-via-then-from-room+else-more-room, else-from-room-via-else-from-room}
 
 pub returns-then-more-room : goal.returns-then-more-room
-returns-then-more-room c = raw-fits _ _ _ _ _ (omega arith) c.copy-from-slice.ensures.after (omega arith)
+returns-then-more-room c = raw-fits _ _ _ _ _ (omega arith) c.copy_from_slice.ensures.after (omega arith)
 
 pub returns-else-from-room : goal.returns-else-from-room
 returns-else-from-room c =

@@ -7,18 +7,18 @@ use Rattle.signals.proofs.Pieces.{poured-as}
 use Rattle.std.proofs.Common.{ap}
 use Rattle.signals.proofs.bodies.put_dictionary.Goals as goal
 
-pub returns-in-err-at : goal.returns-in-err-at
+pub returns-in_err-at : goal.returns-in_err-at
 unfolding put_properties
-returns-in-err-at g c =
-    let p = err_from_is_err_and c.from-residual.result c.from-residual.ensures.1 in
-    rw p.1 (array-unopened _ _ _ _ _ _ _ (c.in-err-at.ensures))
+returns-in_err-at g c =
+    let p = err_from_is_err_and c.from_residual.result c.from_residual.ensures.1 in
+    rw p.1 (array-unopened _ _ _ _ _ _ _ (c.in_err-at.ensures))
 
-pub returns-in-err-at-2 : goal.returns-in-err-at-2
+pub returns-in_err-at-2 : goal.returns-in_err-at-2
 unfolding put_properties
-returns-in-err-at-2 g c =
-    let p = err_from_is_err_and c.from-residual-in-err-at-2.result c.from-residual-in-err-at-2.ensures.1 in
-    rw p.1 (array-stops _ _ _ _ _ _ _ (poured-then _ _ _ _ _ _ _ _ c.in-ok-at.ensures c.in-err-at-2.ensures))
+returns-in_err-at-2 g c =
+    let p = err_from_is_err_and c.from_residual-in_err-at-2.result c.from_residual-in_err-at-2.ensures.1 in
+    rw p.1 (array-stops _ _ _ _ _ _ _ (poured-then _ _ _ _ _ _ _ _ c.in_ok-at.ensures c.in_err-at-2.ensures))
 
 pub returns : goal.returns
 unfolding put_properties
-returns g c = c.close-array.ensures.closes _ _ (poured-then _ _ _ _ _ _ _ _ c.in-ok-at.ensures c.in-ok-at-2.ensures)
+returns g c = c.close_array.ensures.closes _ _ (poured-then _ _ _ _ _ _ _ _ c.in_ok-at.ensures c.in_ok-at-2.ensures)

@@ -7,18 +7,18 @@ use Rattle.signals.proofs.Pieces.{poured-as}
 use Rattle.std.proofs.Common.{ap}
 use Rattle.signals.proofs.bodies.put_instance.Goals as goal
 
-pub returns-in-err-at : goal.returns-in-err-at
+pub returns-in_err-at : goal.returns-in_err-at
 unfolding put_announced
-returns-in-err-at g c =
-    let p = err_from_is_err_and c.from-residual.result c.from-residual.ensures.1 in
-    rw p.1 (poured-stops _ _ _ _ _ _ _ c.in-err-at.ensures)
+returns-in_err-at g c =
+    let p = err_from_is_err_and c.from_residual.result c.from_residual.ensures.1 in
+    rw p.1 (poured-stops _ _ _ _ _ _ _ c.in_err-at.ensures)
 
-pub returns-in-err-at-2 : goal.returns-in-err-at-2
+pub returns-in_err-at-2 : goal.returns-in_err-at-2
 unfolding put_announced
-returns-in-err-at-2 g c =
-    let p = err_from_is_err_and c.from-residual-in-err-at-2.result c.from-residual-in-err-at-2.ensures.1 in
-    rw p.1 (poured-then _ _ _ _ _ _ _ _ c.in-ok-at.ensures (poured-stops _ _ _ _ _ _ _ (poured-as _ _ _ _ _ _ (ap put_string c.name-of.ensures) c.in-err-at-2.ensures.wrote)))
+returns-in_err-at-2 g c =
+    let p = err_from_is_err_and c.from_residual-in_err-at-2.result c.from_residual-in_err-at-2.ensures.1 in
+    rw p.1 (poured-then _ _ _ _ _ _ _ _ c.in_ok-at.ensures (poured-stops _ _ _ _ _ _ _ (poured-as _ _ _ _ _ _ (ap put_string c.name_of.ensures) c.in_err-at-2.ensures.wrote)))
 
 pub returns : goal.returns
 unfolding put_announced
-returns g c = poured-then _ _ _ _ _ _ _ _ c.in-ok-at.ensures (poured-then _ _ _ _ _ _ _ _ (poured-as _ _ _ _ _ _ (ap put_string c.name-of.ensures) c.in-ok-at-2.ensures.wrote) c.put-dictionary.ensures)
+returns g c = poured-then _ _ _ _ _ _ _ _ c.in_ok-at.ensures (poured-then _ _ _ _ _ _ _ _ (poured-as _ _ _ _ _ _ (ap put_string c.name_of.ensures) c.in_ok-at-2.ensures.wrote) c.put_dictionary.ensures)

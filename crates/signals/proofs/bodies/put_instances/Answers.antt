@@ -11,22 +11,22 @@ use Rattle.signals.proofs.Pieces.{poured-as}
 use Rattle.signals.proofs.Readings.{readable-at}
 use Rattle.signals.proofs.bodies.put_instances.Goals as goal
 
-pub put-instance-requires : goal.put-instance-requires
-put-instance-requires g c = readable-at _ c.args.instances.now c.loop-i.i-index 0 c.loop-i-test.true c.requires
+pub put_instance-requires : goal.put_instance-requires
+put_instance-requires g c = readable-at _ c.args.instances.now c.loop-i.i-index 0 c.loop-i-test.true c.requires
 
 pub loop-i-init : goal.loop-i-init
 loop-i-init g c = let le : c.args.from ≤ room c.args.bytes.now = omega arith in poured-none put_announced _ _ le
 
-pub returns-in-err-at : goal.returns-in-err-at
-returns-in-err-at g c =
+pub returns-in_err-at : goal.returns-in_err-at
+returns-in_err-at g c =
     let f = announced (g.B.Bank.models c.args.bank.now) in
-    let p = err_from_is_err_and c.from-residual.result c.from-residual.ensures.1 in
-    rw p.1 (poured-stuck put_announced _ _ _ _ _ _ c.loop-i.i-index _ (nth-mapped f c.args.instances.now c.loop-i.i-index 0 c.loop-i-test.true) c.loop-i.invariant _ _ c.in-err-at.ensures)
+    let p = err_from_is_err_and c.from_residual.result c.from_residual.ensures.1 in
+    rw p.1 (poured-stuck put_announced _ _ _ _ _ _ c.loop-i.i-index _ (nth-mapped f c.args.instances.now c.loop-i.i-index 0 c.loop-i-test.true) c.loop-i.invariant _ _ c.in_err-at.ensures)
 
 pub loop-i-preserved : goal.loop-i-preserved
 loop-i-preserved g c =
     let f = announced (g.B.Bank.models c.args.bank.now) in
-    poured-more put_announced _ _ _ _ _ _ c.loop-i.i-index _ (nth-mapped f c.args.instances.now c.loop-i.i-index 0 c.loop-i-test.true) c.loop-i.invariant _ c.in-ok-at.ensures
+    poured-more put_announced _ _ _ _ _ _ c.loop-i.i-index _ (nth-mapped f c.args.instances.now c.loop-i.i-index 0 c.loop-i-test.true) c.loop-i.invariant _ c.in_ok-at.ensures
 
 pub returns : goal.returns
 returns g c =

@@ -12,6 +12,6 @@ returns-in-Ok-Ok g c =
     let answer = c.in-Ok-Ok.ensures.answer in
     let is : Ok (Ok c.in-Ok-Ok.count) ≡ asked all_answer (slice_get models c.args.i) = cc in
     record {
-      values = values-read (slice_get models c.args.i) c.in-Ok-Ok.count c.get-all.new.into (map seen c.args.into.now) is c.in-Ok-Ok.ensures.values;
+      values = values-read (slice_get models c.args.i) c.in-Ok-Ok.count c.get_all.new.into (map seen c.args.into.now) is c.in-Ok-Ok.ensures.values;
       few = few-read models c.args.i c.in-Ok-Ok.count (g.met.B.Bank.well c.args.bank.now) is;
     }

@@ -5,22 +5,22 @@ use Rattle.wire.specs.Reading.{text_at}
 use Rattle.wire.proofs.Read.{goes, stops}
 use Rattle.wire.proofs.reading.read_text.Goals as goal
 
-pub returns-in-err-text : goal.returns-in-err-text
+pub returns-in_err-text : goal.returns-in_err-text
 unfolding text_at
-returns-in-err-text c =
-    let p = err_from_is_err_and c.from-residual.result c.from-residual.ensures.1 in
-    rw (p.1, p.2) (record { value = sym (stops _ c.in-err-text.ensures.value); within = tt })
+returns-in_err-text c =
+    let p = err_from_is_err_and c.from_residual.result c.from_residual.ensures.1 in
+    rw (p.1, p.2) (record { value = sym (stops _ c.in_err-text.ensures.value); within = tt })
 
 pub returns-then-not-accepts : goal.returns-then-not-accepts
 unfolding text_at
 returns-then-not-accepts c = record {
-  value = ap Err c.fault.ensures ∙ sym (goes _ c.in-ok-text.ensures.value ∙ cond-false _ _ _ (sym c.if-not-accepts.ensures));
+  value = ap Err c.fault.ensures ∙ sym (goes _ c.in_ok-text.ensures.value ∙ cond-false _ _ _ (sym c.if-not-accepts.ensures));
   within = tt;
 }
 
 pub returns : goal.returns
 unfolding text_at
 returns c = record {
-  value = sym (goes _ c.in-ok-text.ensures.value ∙ cond-true _ _ _ (sym c.if-not-accepts.ensures));
-  within = c.in-ok-text.ensures.within;
+  value = sym (goes _ c.in_ok-text.ensures.value ∙ cond-true _ _ _ (sym c.if-not-accepts.ensures));
+  within = c.in_ok-text.ensures.within;
 }

@@ -8,5 +8,5 @@ returns g c =
     let xs = g.A.Bank.models c.args.self.now.first in
     let ys = g.B.Bank.models c.args.self.now.second in
     let i = c.args.i in
-    let e = c.place-of.ensures ∙ ap (λ n. place_of n i) c.len.ensures in
+    let e = c.place_of.ensures ∙ ap (λ n. place_of n i) c.len.ensures in
     record { answer = e; stands = subst (Stands xs ys i) (sym e) (at_place xs ys i) }

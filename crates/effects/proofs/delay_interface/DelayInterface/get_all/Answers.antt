@@ -8,6 +8,6 @@ pub returns : goal.returns
 returns c =
     let d = c.args.self.now in
     record {
-      answer = ap Ok c.property-count.ensures;
+      answer = ap Ok c.property_count.ensures;
       values = written-front seen (V.Bool d.bypassed ∷ V.U32 d.feedback ∷ V.Str d.label ∷ []) c.args.into.now (omega arith);
     }

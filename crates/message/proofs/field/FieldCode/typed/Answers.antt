@@ -5,9 +5,9 @@ use Rattle.message.specs.Fields.{typed_at}
 use Rattle.message.proofs.Steps.{goes, stops}
 use Rattle.message.proofs.field.FieldCode.typed.Goals as goal
 
-pub returns-in-default : goal.returns-in-default
+pub returns-in_default : goal.returns-in_default
 unfolding typed_at
-returns-in-default c = record { value = sym (stops _ _ c.in-default.ensures.value); within = tt }
+returns-in_default c = record { value = sym (stops _ _ c.in_default.ensures.value); within = tt }
 
 pub returns-then-not-same : goal.returns-then-not-same
 unfolding typed_at

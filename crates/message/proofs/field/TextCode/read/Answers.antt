@@ -4,9 +4,9 @@ use Rattle.message.specs.Fields.{text_value}
 use Rattle.message.proofs.Steps.{goes, stops}
 use Rattle.message.proofs.field.TextCode.read.Goals as goal
 
-pub returns-in-default : goal.returns-in-default
+pub returns-in_default : goal.returns-in_default
 unfolding text_value
-returns-in-default c = record { value = sym (stops _ _ c.in-default.ensures.value); within = tt }
+returns-in_default c = record { value = sym (stops _ _ c.in_default.ensures.value); within = tt }
 
 pub returns-then-not-allows : goal.returns-then-not-allows
 unfolding text_value

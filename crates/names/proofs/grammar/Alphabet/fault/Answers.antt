@@ -5,8 +5,8 @@ use Rattle.names.proofs.grammar.Alphabet.fault.Goals as goal
 pub loop-i-init : goal.loop-i-init
 loop-i-init c = keeps-first c.args.self c.args.s.now
 
-pub returns-in-default : goal.returns-in-default
-returns-in-default c = stops c.args.self c.loop-i.invariant c.loop-i-test.true (sym c.in-default.is ∙ c.step.ensures)
+pub returns-in_default : goal.returns-in_default
+returns-in_default c = stops c.args.self c.loop-i.invariant c.loop-i-test.true (sym c.in_default.is ∙ c.step.ensures)
 
 pub loop-i-preserved : goal.loop-i-preserved
 loop-i-preserved c = keeps-more c.args.self c.loop-i.invariant c.loop-i-test.true (sym c.in-Some.is ∙ c.step.ensures)

@@ -3,15 +3,15 @@ use Rattle.std.proofs.lemmas.Result.{err_from_is_err_and}
 use Rattle.outbox.proofs.Lent.{lent_below, lent-part, lent-size, lent-was, poured-at, poured-size}
 use Rattle.outbox.proofs.drafts.Draft.put.Goals as goal
 
-pub returns-in-err-len : goal.returns-in-err-len
-returns-in-err-len g c =
+pub returns-in_err-len : goal.returns-in_err-len
+returns-in_err-len g c =
     let was = c.args.bytes.now in
     let s = c.args.self.now.start in
     let from = c.start-from.result in
     let ys = c.marshal.new.bytes in
-    let p = c.in-err-len.ensures in
+    let p = c.in_err-len.ensures in
     let size : length ys ≡ length was - from = poured-size _ _ _ _ _ p ∙ omega (arith, length-take (length was - from) (drop from was), length-drop from was) in
-    let e = err_from_is_err_and c.from-residual.result c.from-residual.ensures.1 in
+    let e = err_from_is_err_and c.from_residual.result c.from_residual.ensures.1 in
     rw e.1
     (record {
       stays = λ _. refl;
@@ -32,8 +32,8 @@ returns g c =
     let s = c.args.self.now.start in
     let from = c.start-from.result in
     let ys = c.marshal.new.bytes in
-    let n = c.in-ok-len.len in
-    let p = c.in-ok-len.ensures in
+    let n = c.in_ok-len.len in
+    let p = c.in_ok-len.ensures in
     let size : length ys ≡ length was - from = poured-size _ _ _ _ _ p ∙ omega (arith, length-take (length was - from) (drop from was), length-drop from was) in
     let reached : n ≡ s + n - s = omega arith in
     record {

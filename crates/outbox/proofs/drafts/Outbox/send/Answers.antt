@@ -6,7 +6,7 @@ use Rattle.outbox.proofs.drafts.Outbox.send.Goals as goal
 pub returns : goal.returns
 returns g c =
     let o = c.args.self.now in
-    let q = c.in-ok-put.ensures.went in
+    let q = c.in_ok-put.ensures.went in
     let lent = c.begin-draft.ensures.lent in
     let start = c.begin-draft.ensures.start in
     let n = drafted c.put.new.self in

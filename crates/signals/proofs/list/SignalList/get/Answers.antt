@@ -11,5 +11,5 @@ returns-then-i-len c =
 pub returns : goal.returns
 returns c =
     let l = c.args.self.now in
-    shown_by l.text.now _ _ (get_or l.records.now c.args.i blank) _ _ c.text-before-limit.ensures c.cut.ensures c.cut-2.ensures
+    shown_by l.text.now _ _ (get_or l.records.now c.args.i blank) _ _ c.text_before-limit.ensures c.cut.ensures c.cut-2.ensures
     ∙ sym (got l.text.now l.records.now l.count l.used c.args.i c.len-len.result blank c.len-len.ensures.records c.if-i-len.false)

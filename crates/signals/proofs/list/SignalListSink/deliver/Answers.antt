@@ -17,6 +17,6 @@ returns c =
       answer = sym yes;
       after =
           delivered l.text.now s.path s.body l.used room l.records.now l.count s.kind _ _ _ _
-          c.copy-from-slice.ensures.after c.copy-from-slice-2.ensures.after (omega arith) (omega arith) lt
+          c.copy_from_slice.ensures.after c.copy_from_slice-2.ensures.after (omega arith) (omega arith) lt
           ∙ ap (λ b. offered b (list_waiting l) s) (sym yes);
     }
