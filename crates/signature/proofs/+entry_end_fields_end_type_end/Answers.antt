@@ -53,15 +53,15 @@ type_end-returns-in_err-from_letter t c = rw c.from_residual.ensures (record {
   inside = tt;
 })
 
-pub type_end-returns-in_err-in_array : goal.type_end-returns-in_err-in_array
-type_end-returns-in_err-in_array t c = rw c.from_residual-in_err-in_array.ensures (record {
-  value = sym (by_code c.args.signature.now c.args.in_array c.args.levels c.args.at Array c.in_ok-from_letter.ensures c.in-Array.is ∙ stuck _ c.in_err-in_array.ensures);
+pub type_end-returns-in_err-in_array-in-Array : goal.type_end-returns-in_err-in_array-in-Array
+type_end-returns-in_err-in_array-in-Array t c = rw c.from_residual-in_err-in_array-in-Array.ensures (record {
+  value = sym (by_code c.args.signature.now c.args.in_array c.args.levels c.args.at Array c.in_ok-from_letter.ensures c.in-Array.is ∙ stuck _ c.in_err-in_array-in-Array.ensures);
   inside = tt;
 })
 
-pub type_end-returns-in_err-in_structure : goal.type_end-returns-in_err-in_structure
-type_end-returns-in_err-in_structure t c = rw c.from_residual-in_err-in_structure.ensures (record {
-  value = sym (by_code c.args.signature.now c.args.in_array c.args.levels c.args.at Structure c.in_ok-from_letter.ensures c.in-Structure.is ∙ stuck _ c.in_err-in_structure.ensures);
+pub type_end-returns-in_err-in_structure-in-Structure : goal.type_end-returns-in_err-in_structure-in-Structure
+type_end-returns-in_err-in_structure-in-Structure t c = rw c.from_residual-in_err-in_structure-in-Structure.ensures (record {
+  value = sym (by_code c.args.signature.now c.args.in_array c.args.levels c.args.at Structure c.in_ok-from_letter.ensures c.in-Structure.is ∙ stuck _ c.in_err-in_structure-in-Structure.ensures);
   inside = tt;
 })
 
@@ -71,27 +71,27 @@ type_end-returns-then-not-in_array t c = record {
   inside = tt;
 }
 
-pub type_end-returns-in_err-in_structure-2 : goal.type_end-returns-in_err-in_structure-2
-type_end-returns-in_err-in_structure-2 t c = rw c.from_residual-in_err-in_structure-2.ensures (record {
-  value = sym (by_code c.args.signature.now c.args.in_array c.args.levels c.args.at DictEntry c.in_ok-from_letter.ensures c.in-DictEntry.is ∙ cond-true _ _ _ c.if-not-in_array.false ∙ stuck _ c.in_err-in_structure-2.ensures);
+pub type_end-returns-in_err-in_structure-in-DictEntry : goal.type_end-returns-in_err-in_structure-in-DictEntry
+type_end-returns-in_err-in_structure-in-DictEntry t c = rw c.from_residual-in_err-in_structure-in-DictEntry.ensures (record {
+  value = sym (by_code c.args.signature.now c.args.in_array c.args.levels c.args.at DictEntry c.in_ok-from_letter.ensures c.in-DictEntry.is ∙ cond-true _ _ _ c.if-not-in_array.false ∙ stuck _ c.in_err-in_structure-in-DictEntry.ensures);
   inside = tt;
 })
 
-pub type_end-returns-in_ok-in_array : goal.type_end-returns-in_ok-in_array
-type_end-returns-in_ok-in_array t c = record {
-  value = c.type_end.ensures.value ∙ sym (by_code c.args.signature.now c.args.in_array c.args.levels c.args.at Array c.in_ok-from_letter.ensures c.in-Array.is ∙ through _ c.in_ok-in_array.ensures);
+pub type_end-returns-in_ok-in_array-in-Array : goal.type_end-returns-in_ok-in_array-in-Array
+type_end-returns-in_ok-in_array-in-Array t c = record {
+  value = c.type_end.ensures.value ∙ sym (by_code c.args.signature.now c.args.in_array c.args.levels c.args.at Array c.in_ok-from_letter.ensures c.in-Array.is ∙ through _ c.in_ok-in_array-in-Array.ensures);
   inside = wider c.args.signature.now c.args.at _ c.type_end.ensures.inside;
 }
 
-pub type_end-returns-in_ok-in_structure : goal.type_end-returns-in_ok-in_structure
-type_end-returns-in_ok-in_structure t c = record {
-  value = c.fields_end.ensures.value ∙ sym (by_code c.args.signature.now c.args.in_array c.args.levels c.args.at Structure c.in_ok-from_letter.ensures c.in-Structure.is ∙ through _ c.in_ok-in_structure.ensures);
+pub type_end-returns-in_ok-in_structure-in-Structure : goal.type_end-returns-in_ok-in_structure-in-Structure
+type_end-returns-in_ok-in_structure-in-Structure t c = record {
+  value = c.fields_end.ensures.value ∙ sym (by_code c.args.signature.now c.args.in_array c.args.levels c.args.at Structure c.in_ok-from_letter.ensures c.in-Structure.is ∙ through _ c.in_ok-in_structure-in-Structure.ensures);
   inside = wider c.args.signature.now c.args.at _ c.fields_end.ensures.inside;
 }
 
-pub type_end-returns-in_ok-in_structure-2 : goal.type_end-returns-in_ok-in_structure-2
-type_end-returns-in_ok-in_structure-2 t c = record {
-  value = c.entry_end.ensures.value ∙ sym (by_code c.args.signature.now c.args.in_array c.args.levels c.args.at DictEntry c.in_ok-from_letter.ensures c.in-DictEntry.is ∙ cond-true _ _ _ c.if-not-in_array.false ∙ through _ c.in_ok-in_structure-2.ensures);
+pub type_end-returns-in_ok-in_structure-in-DictEntry : goal.type_end-returns-in_ok-in_structure-in-DictEntry
+type_end-returns-in_ok-in_structure-in-DictEntry t c = record {
+  value = c.entry_end.ensures.value ∙ sym (by_code c.args.signature.now c.args.in_array c.args.levels c.args.at DictEntry c.in_ok-from_letter.ensures c.in-DictEntry.is ∙ cond-true _ _ _ c.if-not-in_array.false ∙ through _ c.in_ok-in_structure-in-DictEntry.ensures);
   inside = wider c.args.signature.now c.args.at _ c.entry_end.ensures.inside;
 }
 
