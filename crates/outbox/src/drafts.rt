@@ -91,7 +91,7 @@ impl<'a> Draft<'a> {
     // One part more, into the bytes that the mark is of. Its offset is counted from the message's first byte.
     // Where there is no room, the mark and what stands before the message are as they were.
     pub fn put<M: Marshal>(&mut self, bytes: &mut [u8], value: &M) -> Result<(), Full>
-        ensures went { Went self.old bytes.old self.new bytes.new result (part value.now) }
+        ensures went { Went self.old bytes.old self.new bytes.new result (M.part value.now) }
         ensures stays { is_ok result ≡ false → self.new.mark.now.fill ≡ self.old.mark.now.fill }
     {
         let at = self.len();
@@ -198,7 +198,7 @@ impl<'a> Outbox<'a> {
 
     // One message more, whole, or none of it.
     pub fn send<M: Marshal>(&mut self, message: &M) -> Result<(), Full>
-        ensures { Sent self.old self.new result (part message.now 0) }
+        ensures { Sent self.old self.new result (M.part message.now 0) }
     {
         let Outbox { bytes, mark } = self;
         let mut draft = Draft::begin(mark);

@@ -49,51 +49,51 @@ skip_value-returns-in_err-code t c = rw c.from_residual.ensures (record {
   ahead = tt;
 })
 
-pub skip_value-returns-in_err-in_array : goal.skip_value-returns-in_err-in_array
-skip_value-returns-in_err-in_array t c = rw c.from_residual-in_err-in_array.ensures (record {
-  value = sym (by_code c.args.order c.args.message.now c.args.levels c.args.signature.now c.args.at c.args.pos Array c.in_ok-code.ensures c.in-Array.is ∙ stuck _ c.in_err-in_array.ensures);
+pub skip_value-returns-in_err-in_array-in-Array : goal.skip_value-returns-in_err-in_array-in-Array
+skip_value-returns-in_err-in_array-in-Array t c = rw c.from_residual-in_err-in_array-in-Array.ensures (record {
+  value = sym (by_code c.args.order c.args.message.now c.args.levels c.args.signature.now c.args.at c.args.pos Array c.in_ok-code.ensures c.in-Array.is ∙ stuck _ c.in_err-in_array-in-Array.ensures);
   ahead = tt;
 })
 
-pub skip_value-returns-in_err-in_structure : goal.skip_value-returns-in_err-in_structure
-skip_value-returns-in_err-in_structure t c = rw c.from_residual-in_err-in_structure.ensures (record {
-  value = sym (by_code c.args.order c.args.message.now c.args.levels c.args.signature.now c.args.at c.args.pos Structure c.in_ok-code.ensures c.in-Structure.is ∙ stuck _ c.in_err-in_structure.ensures);
+pub skip_value-returns-in_err-in_structure-in-Structure : goal.skip_value-returns-in_err-in_structure-in-Structure
+skip_value-returns-in_err-in_structure-in-Structure t c = rw c.from_residual-in_err-in_structure-in-Structure.ensures (record {
+  value = sym (by_code c.args.order c.args.message.now c.args.levels c.args.signature.now c.args.at c.args.pos Structure c.in_ok-code.ensures c.in-Structure.is ∙ stuck _ c.in_err-in_structure-in-Structure.ensures);
   ahead = tt;
 })
 
-pub skip_value-returns-in_err-in_structure-2 : goal.skip_value-returns-in_err-in_structure-2
-skip_value-returns-in_err-in_structure-2 t c = rw c.from_residual-in_err-in_structure-2.ensures (record {
-  value = sym (by_code c.args.order c.args.message.now c.args.levels c.args.signature.now c.args.at c.args.pos DictEntry c.in_ok-code.ensures c.in-DictEntry.is ∙ stuck _ c.in_err-in_structure-2.ensures);
+pub skip_value-returns-in_err-in_structure-in-DictEntry : goal.skip_value-returns-in_err-in_structure-in-DictEntry
+skip_value-returns-in_err-in_structure-in-DictEntry t c = rw c.from_residual-in_err-in_structure-in-DictEntry.ensures (record {
+  value = sym (by_code c.args.order c.args.message.now c.args.levels c.args.signature.now c.args.at c.args.pos DictEntry c.in_ok-code.ensures c.in-DictEntry.is ∙ stuck _ c.in_err-in_structure-in-DictEntry.ensures);
   ahead = tt;
 })
 
-pub skip_value-returns-in_err-in_variant : goal.skip_value-returns-in_err-in_variant
-skip_value-returns-in_err-in_variant t c = rw c.from_residual-in_err-in_variant.ensures (record {
-  value = sym (by_code c.args.order c.args.message.now c.args.levels c.args.signature.now c.args.at c.args.pos Variant c.in_ok-code.ensures c.in-Variant.is ∙ ap (plainly c.args.at) (stuck _ c.in_err-in_variant.ensures));
+pub skip_value-returns-in_err-in_variant-in-Variant : goal.skip_value-returns-in_err-in_variant-in-Variant
+skip_value-returns-in_err-in_variant-in-Variant t c = rw c.from_residual-in_err-in_variant-in-Variant.ensures (record {
+  value = sym (by_code c.args.order c.args.message.now c.args.levels c.args.signature.now c.args.at c.args.pos Variant c.in_ok-code.ensures c.in-Variant.is ∙ ap (plainly c.args.at) (stuck _ c.in_err-in_variant-in-Variant.ensures));
   ahead = tt;
 })
 
-pub skip_value-returns-in_ok-in_array : goal.skip_value-returns-in_ok-in_array
-skip_value-returns-in_ok-in_array t c = record {
-  value = c.skip_array.ensures.value ∙ sym (by_code c.args.order c.args.message.now c.args.levels c.args.signature.now c.args.at c.args.pos Array c.in_ok-code.ensures c.in-Array.is ∙ through _ c.in_ok-in_array.ensures);
+pub skip_value-returns-in_ok-in_array-in-Array : goal.skip_value-returns-in_ok-in_array-in-Array
+skip_value-returns-in_ok-in_array-in-Array t c = record {
+  value = c.skip_array.ensures.value ∙ sym (by_code c.args.order c.args.message.now c.args.levels c.args.signature.now c.args.at c.args.pos Array c.in_ok-code.ensures c.in-Array.is ∙ through _ c.in_ok-in_array-in-Array.ensures);
   ahead = one_on c.args.message.now c.args.signature.now c.args.at c.args.pos c.skip_array.result c.skip_array.ensures.ahead;
 }
 
-pub skip_value-returns-in_ok-in_structure : goal.skip_value-returns-in_ok-in_structure
-skip_value-returns-in_ok-in_structure t c = record {
-  value = c.skip_fields.ensures.value ∙ sym (by_code c.args.order c.args.message.now c.args.levels c.args.signature.now c.args.at c.args.pos Structure c.in_ok-code.ensures c.in-Structure.is ∙ through _ c.in_ok-in_structure.ensures);
+pub skip_value-returns-in_ok-in_structure-in-Structure : goal.skip_value-returns-in_ok-in_structure-in-Structure
+skip_value-returns-in_ok-in_structure-in-Structure t c = record {
+  value = c.skip_fields.ensures.value ∙ sym (by_code c.args.order c.args.message.now c.args.levels c.args.signature.now c.args.at c.args.pos Structure c.in_ok-code.ensures c.in-Structure.is ∙ through _ c.in_ok-in_structure-in-Structure.ensures);
   ahead = one_on c.args.message.now c.args.signature.now c.args.at c.args.pos c.skip_fields.result c.skip_fields.ensures.ahead;
 }
 
-pub skip_value-returns-in_ok-in_structure-2 : goal.skip_value-returns-in_ok-in_structure-2
-skip_value-returns-in_ok-in_structure-2 t c = record {
-  value = c.skip_fields-in-DictEntry.ensures.value ∙ sym (by_code c.args.order c.args.message.now c.args.levels c.args.signature.now c.args.at c.args.pos DictEntry c.in_ok-code.ensures c.in-DictEntry.is ∙ through _ c.in_ok-in_structure-2.ensures);
+pub skip_value-returns-in_ok-in_structure-in-DictEntry : goal.skip_value-returns-in_ok-in_structure-in-DictEntry
+skip_value-returns-in_ok-in_structure-in-DictEntry t c = record {
+  value = c.skip_fields-in-DictEntry.ensures.value ∙ sym (by_code c.args.order c.args.message.now c.args.levels c.args.signature.now c.args.at c.args.pos DictEntry c.in_ok-code.ensures c.in-DictEntry.is ∙ through _ c.in_ok-in_structure-in-DictEntry.ensures);
   ahead = one_on c.args.message.now c.args.signature.now c.args.at c.args.pos c.skip_fields-in-DictEntry.result c.skip_fields-in-DictEntry.ensures.ahead;
 }
 
-pub skip_value-returns-in_ok-in_variant : goal.skip_value-returns-in_ok-in_variant
-skip_value-returns-in_ok-in_variant t c = record {
-  value = c.past.ensures ∙ ap (plainly c.args.at) (c.skip_variant.ensures.value ∙ sym (through _ c.in_ok-in_variant.ensures)) ∙ sym (by_code c.args.order c.args.message.now c.args.levels c.args.signature.now c.args.at c.args.pos Variant c.in_ok-code.ensures c.in-Variant.is);
+pub skip_value-returns-in_ok-in_variant-in-Variant : goal.skip_value-returns-in_ok-in_variant-in-Variant
+skip_value-returns-in_ok-in_variant-in-Variant t c = record {
+  value = c.past.ensures ∙ ap (plainly c.args.at) (c.skip_variant.ensures.value ∙ sym (through _ c.in_ok-in_variant-in-Variant.ensures)) ∙ sym (by_code c.args.order c.args.message.now c.args.levels c.args.signature.now c.args.at c.args.pos Variant c.in_ok-code.ensures c.in-Variant.is);
   ahead = plain-ahead c.args.message.now c.args.signature.now c.args.at c.args.pos c.skip_variant.result c.past.result c.past.ensures c.if-at-signature.false c.skip_variant.ensures.inside;
 }
 

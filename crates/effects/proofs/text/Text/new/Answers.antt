@@ -4,7 +4,10 @@ use Rattle.effects.specs.Texts.{plain}
 use Rattle.effects.proofs.text.Text.new.Goals as goal
 
 pub invariant_of-result : goal.invariant_of-result
-invariant_of-result c = (c.if-len-gt64.false, (ap plain c.padded.ensures ∙ sym c.if-not-is_plain.ensures, tt))
+invariant_of-result c = record {
+  short = c.if-len-gt64.false;
+  shown = ap plain c.padded.ensures ∙ sym c.if-not-is_plain.ensures;
+}
 
 pub returns : goal.returns
 returns c =
