@@ -27,8 +27,8 @@ loop-i-preserved g c =
     let is = c.args.instances.now in
     let k = c.loop-i.i-index in
     let answer = c.in-Ok-Ok.ensures.answer in
-    let e : Ok (Ok c.in-Ok-Ok.-count) ≡ asked all_answer (slice_get models (get_or is k 0)) = cc in
-    goes_on models is k 0 c.loop-i-test.true (read_ok (slice_get models (get_or is k 0)) (get_or is k 0) c.in-Ok-Ok.-count e) c.loop-i.invariant
+    let e : Ok (Ok c.in-Ok-Ok._count) ≡ asked all_answer (slice_get models (get_or is k 0)) = cc in
+    goes_on models is k 0 c.loop-i-test.true (read_ok (slice_get models (get_or is k 0)) (get_or is k 0) c.in-Ok-Ok._count e) c.loop-i.invariant
 
 pub returns : goal.returns
 returns g c = at-end (g.B.Bank.models c.args.bank.now) c.args.instances.now c.loop-i.i-index c.loop-i-test.false c.loop-i.invariant

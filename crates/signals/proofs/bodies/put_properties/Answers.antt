@@ -12,10 +12,10 @@ use Rattle.signals.proofs.bodies.put_properties.Goals as goal
 pub loop-k-init : goal.loop-k-init
 loop-k-init g c = let le : c.args.from ≤ room c.args.bytes.now = omega arith in poured-none put_property _ _ le
 
-pub returns-in_err-at : goal.returns-in_err-at
-returns-in_err-at g c =
+pub returns-in_err-at-in-Some : goal.returns-in_err-at-in-Some
+returns-in_err-at-in-Some g c =
     let p = err_from_is_err_and c.from_residual.result c.from_residual.ensures.1 in
-    rw p.1 (property-stuck _ _ _ _ _ _ c.args.values.now c.loop-k.k _ c.index-values-k.result c.requires c.index-values-k.is c.in-Some.ensures c.loop-k.invariant _ c.in_err-at.ensures _)
+    rw p.1 (property-stuck _ _ _ _ _ _ c.args.values.now c.loop-k.k _ c.index-values-k.result c.requires c.index-values-k.is c.in-Some.ensures c.loop-k.invariant _ c.in_err-at-in-Some.ensures _)
 
 pub returns-in-None : goal.returns-in-None
 returns-in-None g c =
@@ -25,7 +25,7 @@ returns-in-None g c =
     absurd (omega arith)
 
 pub loop-k-preserved : goal.loop-k-preserved
-loop-k-preserved g c = property-more _ _ _ _ _ _ c.args.values.now c.loop-k.k _ c.index-values-k.result c.requires c.index-values-k.is c.in-Some.ensures c.loop-k.invariant _ c.in_ok-at.ensures
+loop-k-preserved g c = property-more _ _ _ _ _ _ c.args.values.now c.loop-k.k _ c.index-values-k.result c.requires c.index-values-k.is c.in-Some.ensures c.loop-k.invariant _ c.in_ok-at-in-Some.ensures
 
 pub returns : goal.returns
 returns g c =
