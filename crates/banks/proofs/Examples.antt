@@ -1,5 +1,5 @@
 -- The definitions at worked examples.
-use Rattle.std.proofs.Common.{◌≡◌, ℕ, true, false, List, [], ◌∷◌, pos, Ok, Err, codes, refl}
+use Rattle.std.proofs.Common.{◌≡◌, true, false, List, [], ◌∷◌, pos, Ok, Err, codes, refl}
 use Rattle.std.specs.List.{slice_get}
 use Rattle.effects.specs.Model.{InterfaceModel}
 use Rattle.effects.specs.Calls.{after_call}

@@ -1,5 +1,5 @@
 -- No call on a bank changes the shape of an interface in it, so all names stay.
-use Rattle.std.proofs.Common.{◌≡◌, ℕ, zero, suc, List, [], ◌∷◌, map, refl, ap, ◌∙◌}
+use Rattle.std.proofs.Common.{◌≡◌, ℕ, zero, suc, List, [], ◌∷◌, map, refl, ap}
 use Rattle.names.specs.Names.{Bytes}
 use Rattle.effects.specs.Values.{ValueModel}
 use Rattle.effects.specs.Model.{InterfaceModel}

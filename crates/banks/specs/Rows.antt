@@ -1,5 +1,5 @@
 -- A bank is a list of interfaces, numbered from 0: what a call on one number answers, and what it leaves.
-use Rattle.std.specs.Prelude.{◌≡◌, ℕ, zero, suc, ◌-◌, Bool, true, false, cond, List, [], ◌∷◌, ◌++◌, length, take, Some, None, Ok, Err, Option, Result, nat_lt}
+use Rattle.std.specs.Prelude.{◌≡◌, ℕ, zero, suc, ◌-◌, cond, List, [], ◌∷◌, ◌++◌, take, Some, None, Ok, Err, Option, Result, nat_lt}
 use Rattle.std.specs.List.{slice_get}
 use Rattle.effects.specs.Model.{InterfaceModel}
 use Rattle.banks.specs.declared.bank.NoSuchInstance.{NoSuchInstance}

@@ -1,12 +1,12 @@
 -- The definitions at worked examples.
-use Rattle.std.proofs.Common.{◌≡◌, ℕ, Bool, true, false, List, [], ◌∷◌, replicate, pos, negsuc, Some, None, Ok, Err, codes, refl}
+use Rattle.std.proofs.Common.{◌≡◌, true, false, [], ◌∷◌, replicate, pos, negsuc, Some, None, Ok, Err, codes, refl}
 use Rattle.names.specs.Names.{valid}
 use Rattle.names.specs.Paths.{bytes_before}
 use Rattle.names.specs.declared.standard.Standard.TheVariants.{Properties}
 use Rattle.names.specs.Standard.{is_standard, standard_name}
 use Rattle.effects.specs.declared.interface.SetRefusal.TheVariants.{NoSuchProperty, ReadOnly, WrongType, OutOfRange}
-use Rattle.effects.specs.Texts.{plain, valid_text}
-use Rattle.effects.specs.Values.{truth, whole, count, letters}
+use Rattle.effects.specs.Texts.{valid_text}
+use Rattle.effects.specs.Values.{truth, whole, count}
 use Rattle.effects.specs.Model.{InterfaceModel, succeeded, failed, well_formed}
 use Rattle.effects.specs.Calls.{broken, reads, all_answer, all_after, set_answer, after_set, not_found, requires_mut, answered, call_answer, call_mut_answer, after_call}
 use Rattle.effects.specs.Makes.{delay_with, tuner_with}

@@ -1,11 +1,10 @@
 -- What the law of an interface says of its parts.
-use Rattle.std.proofs.Common.{◌≡◌, ℕ, zero, suc, ◌^◌, ◌<◌, ◌≤◌, Bool, true, false, not, ◌&&◌, ltb, leb, List, [], ◌∷◌, map, length, Some, None, Option, sym, refl, ap, ◌∙◌, arith}
-use Rattle.std.proofs.lemmas.Bool.{and_parts, leb-true, ltb-true, not-true, true≢false}
+use Rattle.std.proofs.Common.{◌≡◌, ℕ, zero, suc, ◌^◌, ◌<◌, ◌≤◌, Bool, true, false, List, [], ◌∷◌, map, length, Some, ap, ◌∙◌, arith}
+use Rattle.std.proofs.lemmas.Bool.{and_parts, leb-true, ltb-true, not-true}
 use Rattle.std.specs.List.{slice_get}
-use Rattle.names.specs.Names.{Bytes, all, valid_interface, valid_member, valid_error}
+use Rattle.names.specs.Names.{all, valid_interface}
 use Rattle.names.specs.Standard.{is_standard}
-use Rattle.effects.specs.Values.{fits, representable}
-use Rattle.effects.specs.Model.{PropertyModel, MethodModel, InterfaceModel, ascending, well_property, well_method, reply_of, valid_reply, well_formed}
+use Rattle.effects.specs.Model.{InterfaceModel, ascending, well_property, well_method, well_formed}
 
 -- what holds of all holds of the one at a place
 pub all-nth : {X : Type 0} (f : X → Bool) (xs : List X) (i : ℕ) (x : X) → all f xs ≡ true → slice_get xs i ≡ Some x → f x ≡ true

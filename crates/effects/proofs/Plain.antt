@@ -1,5 +1,5 @@
 -- A walk over the bytes of a text, from the first on.
-use Rattle.std.proofs.Common.{◌≡◌, ℕ, zero, suc, ◌+◌, ◌<◌, ◌≤◌, Bool, true, false, ◌&&◌, List, [], ◌∷◌, length, get_or, drop, sym, refl, ap, ◌∙◌, add-one, arith}
+use Rattle.std.proofs.Common.{◌≡◌, ℕ, zero, suc, ◌+◌, ◌<◌, ◌≤◌, true, false, ◌&&◌, [], ◌∷◌, length, get_or, drop, sym, refl, ◌∙◌, add-one, arith}
 use Rattle.names.specs.Names.{Bytes}
 use Rattle.effects.specs.Texts.{printable, plain}
 

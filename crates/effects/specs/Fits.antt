@@ -1,13 +1,10 @@
 -- Values within their ranges.
-use Rattle.std.specs.Prelude.{◌≡◌, ℕ, ◌^◌, ◌<◌, ◌≤◌, Bool, true, false, ltb, leb, length, ℤ, pos, negsuc, ◌≤ℤ◌, refl}
+use Rattle.std.specs.Prelude.{◌≡◌, ℕ, ◌≤◌, Bool, true, false, length, ℤ, pos, negsuc, ◌≤ℤ◌, refl}
 use Rattle.std.proofs.Common.{arith, length-take}
-use Rattle.std.specs.Int.Signed.{le_z}
 use Rattle.std.proofs.lemmas.Int.{ints}
 use Rattle.std.proofs.lemmas.Bool.{le-leb, and_from}
-use Rattle.std.proofs.lemmas.Bool.Decides.{nat_tests}
 use Rattle.effects.specs.declared.text.Text.{Text}
-use Rattle.effects.specs.Texts.{plain, valid_text}
-use Rattle.effects.specs.Values.{ValueModel, truth, whole, count, letters, text_of, in_range, representable}
+use Rattle.effects.specs.Values.{truth, whole, count, letters, text_of, in_range, representable}
 
 pub truth-fits : (b : Bool) → in_range (pos 0) (pos 1) (truth b) ≡ true
 truth-fits true = refl

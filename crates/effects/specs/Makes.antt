@@ -1,14 +1,13 @@
 -- The two makes of interface.
-use Rattle.std.specs.Prelude.{ℕ, Bool, true, false, cond, not, List, [], ◌∷◌, ℤ, pos, negsuc, Some, None, codes, Option, int_lt}
+use Rattle.std.specs.Prelude.{ℕ, Bool, true, cond, not, List, [], ◌∷◌, ℤ, pos, negsuc, Some, None, codes, Option, int_lt}
 use Rattle.names.specs.Names.{Bytes}
-use Rattle.effects.specs.declared.value.Signature.{Signature}
 use Rattle.effects.specs.declared.value.Signature.TheVariants as S
 use Rattle.effects.specs.declared.interface.Access.{Access}
 use Rattle.effects.specs.declared.interface.Access.TheVariants.{Read, ReadWrite}
 use Rattle.effects.specs.declared.delay.Delay.{Delay}
 use Rattle.effects.specs.declared.tuner.Tuner.{Tuner}
 use Rattle.effects.specs.Values.{ValueModel, truth, whole, count, letters, text_of, amount}
-use Rattle.effects.specs.Model.{PropertyModel, Reply, succeeded, failed, Assignment, Effect, looks, changes, InterfaceModel, property_at}
+use Rattle.effects.specs.Model.{PropertyModel, Reply, succeeded, failed, Effect, looks, changes, InterfaceModel, property_at}
 
 -- A property, and its access and value.
 abbrev pub boolean : Bytes → Access → Bool → PropertyModel

@@ -1,5 +1,5 @@
 -- What an interface is: a name, properties, methods and a fault number.
-use Rattle.std.specs.Prelude.{ℕ, ◌^◌, Bool, true, false, cond, not, ◌&&◌, List, [], ◌∷◌, map, length, ℤ, Some, None, Option, nat_le, nat_lt}
+use Rattle.std.specs.Prelude.{ℕ, ◌^◌, Bool, true, cond, not, ◌&&◌, List, [], ◌∷◌, map, length, ℤ, Some, None, Option, nat_le, nat_lt}
 use Rattle.std.specs.Str.{bytes_eq}
 use Rattle.names.specs.Names.{Bytes, all, valid_interface, valid_member, valid_error}
 use Rattle.names.specs.Paths.{bytes_before}

@@ -1,5 +1,5 @@
 -- What a value stands for, of which type it is, and what a range measures of it.
-use Rattle.std.specs.Prelude.{ℕ, ◌^◌, Bool, true, false, cond, ◌&&◌, length, take, ℤ, pos, negsuc, Some, None, Option, ◌==◌, int_le, nat_lt}
+use Rattle.std.specs.Prelude.{ℕ, ◌^◌, Bool, true, cond, ◌&&◌, length, take, ℤ, pos, negsuc, Some, None, Option, ◌==◌, int_le, nat_lt}
 use Rattle.names.specs.Names.{Bytes}
 use Rattle.effects.specs.declared.text.Text.{Text}
 use Rattle.effects.specs.declared.value.Value.{Value}

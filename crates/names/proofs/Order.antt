@@ -1,10 +1,10 @@
 -- The order of paths by bytes is that by elements, and goes through the tree parent first.
-use Rattle.std.proofs.Common.{◌≡◌, ℕ, Bool, true, false, cond, ◌&&◌, ◌||◌, eqb, ltb, ◌⊎◌, List, [], ◌∷◌, ◌++◌, sym, refl, ap, ◌∙◌, ap₂, inl, inr, ⊎_elim, true≢false, arith}
+use Rattle.std.proofs.Common.{◌≡◌, ℕ, Bool, true, false, ◌&&◌, ◌||◌, eqb, ltb, List, [], ◌∷◌, ◌++◌, sym, refl, ◌∙◌, ap₂, ⊎_elim, true≢false}
 use mathlib.Core.Bool.{false≢true}
 use Rattle.std.specs.Str.{bytes_eq}
 use Rattle.names.specs.Names.{Bytes, all, word, path_element, elements_of, valid_path}
 use Rattle.names.specs.Paths.{joined, spelled, beneath, bytes_before, path_before, PreOrder}
-use Rattle.names.proofs.Bools.{and_l, and_r, and_i, or_cases, or_l, or_r, same-eq, same_refl}
+use Rattle.names.proofs.Bools.{and_l, and_r, and_i, or_cases, or_l, or_r, same-eq}
 use Rattle.names.proofs.Spelled.{word-high, word-not-slash, word-not-low, words, path-elements, path-spelled}
 
 or-assoc-and : (a e n s p : Bool) → a || (e && (n || (s && p))) ≡ (a || (e && n)) || ((e && s) && p)

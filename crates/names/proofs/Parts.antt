@@ -2,10 +2,10 @@
 use Rattle.std.proofs.Common.{◌≡◌, ℕ, zero, suc, ◌+◌, ◌<◌, ◌≤◌, Bool, true, false, cond, ◌&&◌, leb, List, [], ◌∷◌, ◌++◌, length, get_or, take, Some, None, Option, sym, refl, ap, ◌∙◌, append_assoc, arith}
 use mathlib.Core.Bool.{false≢true}
 use lib.Seq.{take-length}
-use Rattle.std.proofs.lemmas.Bool.{cond-true, cond-false, le-leb}
+use Rattle.std.proofs.lemmas.Bool.{le-leb}
 use Rattle.names.specs.declared.grammar.Alphabet.{Alphabet}
-use Rattle.names.specs.Names.{Bytes, all, onto, pieces, element}
-use Rattle.names.specs.Faults.{Breaks, separates, opens, goes_on, spells, several}
+use Rattle.names.specs.Names.{Bytes, onto, pieces}
+use Rattle.names.specs.Faults.{Breaks, separates, spells, several}
 use Rattle.names.specs.Scan.{step}
 use Rattle.names.proofs.Bools.{and-false}
 use Rattle.names.proofs.Scans.{run, accepts, joined-run, spells-run, begun, run_end}

@@ -1,11 +1,11 @@
 -- Paths by their bytes and by their elements.
-use Rattle.std.proofs.Common.{◌≡◌, ℕ, Bool, true, false, cond, ◌&&◌, ◌||◌, eqb, ltb, leb, List, [], ◌∷◌, ◌++◌, Some, None, Option, sym, refl, ap, ◌∙◌, ap₂, true≢false, append_assoc, append-nil, arith}
+use Rattle.std.proofs.Common.{◌≡◌, ℕ, Bool, true, false, cond, ◌&&◌, eqb, ltb, List, [], ◌∷◌, ◌++◌, Some, None, Option, sym, refl, ap, ◌∙◌, ap₂, append-nil, arith}
 use mathlib.Core.Bool.{false≢true}
 use Rattle.std.proofs.lemmas.Bool.{eqb-true}
 use Rattle.std.specs.Str.{bytes_eq}
 use Rattle.names.specs.Names.{Bytes, all, onto, pieces, slash, word, path_element, elements_of, valid_path, valid}
-use Rattle.names.specs.Paths.{joined, spelled, beneath, bytes_before, path_before, all_but_last, last_of, parent_of, stem, following, deeper, is_beneath, sooner, before_last, later, after_last, or_root, parent_bytes, last_bytes}
-use Rattle.names.proofs.Bools.{and_l, and_r, and_i, and-false, and_assoc}
+use Rattle.names.specs.Paths.{joined, spelled, beneath, all_but_last, last_of, parent_of, stem, following, deeper, is_beneath, sooner, before_last, later, after_last, or_root, parent_bytes, last_bytes}
+use Rattle.names.proofs.Bools.{and_l, and_r, and_assoc}
 
 -- a slash is below every byte of an element
 pub word-high : (c : ℕ) → word c ≡ true → ltb 47 c ≡ true

@@ -1,5 +1,5 @@
 -- One look at each byte: whether an element begins next, or the byte may not stand there.
-use Rattle.std.specs.Prelude.{ℕ, Bool, true, false, cond, List, [], ◌∷◌, Some, None, Option, ◌==◌}
+use Rattle.std.specs.Prelude.{ℕ, Bool, true, false, cond, [], ◌∷◌, Some, None, Option, ◌==◌}
 use Rattle.names.specs.declared.grammar.Alphabet.{Alphabet}
 use Rattle.names.specs.Names.{Bytes}
 use Rattle.names.specs.Faults.{separates, opens, goes_on}

@@ -1,5 +1,5 @@
 ghost use Rattle.std.specs.Prelude.{◌≡◌, is_ok, IfOk, IfErr};
-ghost use Rattle.names.specs.declared.grammar.Alphabet.TheVariants.{Path as ofPath};
+ghost use Rattle.names.specs.declared.grammar.Alphabet.TheVariants.{Path as of_path};
 ghost use Rattle.names.specs.Names.{valid_path};
 ghost use Rattle.names.specs.Faults.{Refusal};
 
@@ -15,7 +15,7 @@ impl<'a> ObjectPath<'a> {
     pub fn try_from(bytes: &'a [u8]) -> Result<ObjectPath<'a>, Invalid>
         ensures answer { is_ok result ≡ valid_path bytes.now }
         ensures value { IfOk result (λ p. p.bytes.now ≡ bytes.now) }
-        ensures fault { IfErr result (λ e. Refusal ofPath bytes.now e) }
+        ensures fault { IfErr result (λ e. Refusal of_path bytes.now e) }
     {
         match Alphabet::Path.check(bytes) {
             Ok(()) => Ok(ObjectPath { bytes }),

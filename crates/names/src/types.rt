@@ -1,5 +1,5 @@
 ghost use Rattle.std.specs.Prelude.{◌≡◌, true, is_ok, IfOk, IfErr};
-ghost use Rattle.names.specs.declared.grammar.Alphabet.TheVariants.{Name as ofName, Member as ofMember, WellKnown as ofWellKnown, Unique as of_unique};
+ghost use Rattle.names.specs.declared.grammar.Alphabet.TheVariants.{Name as of_name, Member as of_member, WellKnown as of_well_known, Unique as of_unique};
 ghost use Rattle.names.specs.Names.{valid_interface, valid_error, valid_member, valid_unique, valid_well_known, valid_bus};
 ghost use Rattle.names.specs.Faults.{Refusal};
 ghost use Rattle.names.specs.Buses.{bus_bytes, is_unique, colon_first, bus_alphabet};
@@ -16,7 +16,7 @@ impl<'a> InterfaceName<'a> {
     pub fn try_from(bytes: &'a [u8]) -> Result<InterfaceName<'a>, Invalid>
         ensures answer { is_ok result ≡ valid_interface bytes.now }
         ensures value { IfOk result (λ n. n.bytes.now ≡ bytes.now) }
-        ensures fault { IfErr result (λ e. Refusal ofName bytes.now e) }
+        ensures fault { IfErr result (λ e. Refusal of_name bytes.now e) }
     {
         match Alphabet::Name.check(bytes) {
             Ok(()) => Ok(InterfaceName { bytes }),
@@ -41,7 +41,7 @@ impl<'a> ErrorName<'a> {
     pub fn try_from(bytes: &'a [u8]) -> Result<ErrorName<'a>, Invalid>
         ensures answer { is_ok result ≡ valid_error bytes.now }
         ensures value { IfOk result (λ n. n.bytes.now ≡ bytes.now) }
-        ensures fault { IfErr result (λ e. Refusal ofName bytes.now e) }
+        ensures fault { IfErr result (λ e. Refusal of_name bytes.now e) }
     {
         match Alphabet::Name.check(bytes) {
             Ok(()) => Ok(ErrorName { bytes }),
@@ -66,7 +66,7 @@ impl<'a> MemberName<'a> {
     pub fn try_from(bytes: &'a [u8]) -> Result<MemberName<'a>, Invalid>
         ensures answer { is_ok result ≡ valid_member bytes.now }
         ensures value { IfOk result (λ n. n.bytes.now ≡ bytes.now) }
-        ensures fault { IfErr result (λ e. Refusal ofMember bytes.now e) }
+        ensures fault { IfErr result (λ e. Refusal of_member bytes.now e) }
     {
         match Alphabet::Member.check(bytes) {
             Ok(()) => Ok(MemberName { bytes }),
@@ -116,7 +116,7 @@ impl<'a> WellKnownName<'a> {
     pub fn try_from(bytes: &'a [u8]) -> Result<WellKnownName<'a>, Invalid>
         ensures answer { is_ok result ≡ valid_well_known bytes.now }
         ensures value { IfOk result (λ n. n.bytes.now ≡ bytes.now) }
-        ensures fault { IfErr result (λ e. Refusal ofWellKnown bytes.now e) }
+        ensures fault { IfErr result (λ e. Refusal of_well_known bytes.now e) }
     {
         match Alphabet::WellKnown.check(bytes) {
             Ok(()) => Ok(WellKnownName { bytes }),

@@ -6,7 +6,7 @@ use Rattle.signature.specs.declared.codes.Code.{Code}
 use Rattle.signature.specs.declared.codes.Code.TheVariants.{Byte, Boolean, Int16, Uint16, Int32, Uint32, Int64, Uint64, Double, UnixFd, String, ObjectPath, Signature, Array, Structure, DictEntry, Variant}
 use Rattle.signature.specs.declared.levels.Levels.{Levels}
 use Rattle.signature.specs.Codes.{code_of}
-use Rattle.signature.specs.Depth.{full, left, in_array, in_structure, in_variant}
+use Rattle.signature.specs.Depth.{full, in_array, in_structure, in_variant}
 use Rattle.signature.specs.Repeat.{bind, go, halt, onward, repeat}
 use Rattle.signature.specs.Signatures.{Inside, ends_at, entry_end, field_turn, fields_end, first_end, holds, list_turn, single, valid_signature, type_by, type_end, type_end_by, type_step}
 

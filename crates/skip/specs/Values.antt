@@ -10,7 +10,7 @@ use Rattle.wire.specs.declared.reading.Fault.TheVariants as fault
 use Rattle.signature.specs.Codes.{align_of, code_of}
 use Rattle.signature.specs.Depth.{full, in_array, in_structure, in_variant}
 use Rattle.wire.specs.Reading.{align_at, bool_at, fixed_at, path_at, signature_at, string_at, u32_at}
-use Rattle.signature.specs.Repeat.{Turn, go, halt, bind, onward, repeat}
+use Rattle.signature.specs.Repeat.{Turn, halt, bind, onward, repeat}
 use Rattle.signature.specs.Signatures.{single, type_end}
 
 -- the place after what was read

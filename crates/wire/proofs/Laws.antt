@@ -1,5 +1,5 @@
 -- What a text is that was read: valid for its type.
-use Rattle.std.proofs.Common.{◌≡◌, ℕ, true, cond, List, Ok, Err, Result, sym, ap, ◌∙◌, subst, ⊎_elim, arith}
+use Rattle.std.proofs.Common.{◌≡◌, ℕ, true, cond, List, Ok, Err, Result, sym, ◌∙◌, subst, ⊎_elim, arith}
 use Rattle.std.proofs.lemmas.Bool.{cases_Bool, cond-false, cond-true}
 use Rattle.names.specs.Names.{valid_path}
 use Rattle.signature.specs.Signatures.{valid_signature}

@@ -1,4 +1,4 @@
-use Rattle.std.proofs.Common.{◌≡◌, sym, refl, ap, ◌∙◌, true≢false, take_all}
+use Rattle.std.proofs.Common.{sym, refl, ap, ◌∙◌, true≢false, take_all}
 use native.Mathlib.Nat.{sub-zero}
 use Rattle.names.specs.Paths.{makeable}
 use Rattle.plan.proofs.limit_place.Goals as goal

@@ -1,4 +1,4 @@
-use Rattle.std.proofs.Common.{◌≡◌, ◌<◌, [], length, refl, arith, rules}
+use Rattle.std.proofs.Common.{◌≡◌, ◌<◌, [], length, refl, rules}
 use Rattle.names.proofs.Leads.{path-led, breaks-first, breaks-led, good-led, breaks-tail, spells-tail, tail_none}
 use Rattle.names.proofs.grammar.path_flaw.Goals as goal
 

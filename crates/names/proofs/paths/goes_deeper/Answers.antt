@@ -1,4 +1,4 @@
-use Rattle.std.proofs.Common.{◌≡◌, sym, ap, ◌∙◌, rules}
+use Rattle.std.proofs.Common.{rules}
 use Rattle.names.proofs.Walks.{deeper-parts}
 use Rattle.names.proofs.paths.goes_deeper.Goals as goal
 

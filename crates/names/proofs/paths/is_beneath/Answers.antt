@@ -1,5 +1,5 @@
-use Rattle.std.proofs.Common.{◌≡◌, false, Some, None, sym, ap, ◌∙◌}
-use Rattle.names.specs.Paths.{is_beneath, deeper, stem, following}
+use Rattle.std.proofs.Common.{◌≡◌, false, ap, ◌∙◌}
+use Rattle.names.specs.Paths.{is_beneath, deeper, following}
 use Rattle.names.proofs.Spelled.{beneath-elements}
 use Rattle.names.proofs.paths.is_beneath.Goals as goal
 

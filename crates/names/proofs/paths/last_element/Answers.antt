@@ -1,4 +1,4 @@
-use Rattle.std.proofs.Common.{◌≡◌, ◌+◌, ◌-◌, length, take, drop, Some, arith}
+use Rattle.std.proofs.Common.{◌+◌, ◌-◌, length, take, drop, Some, arith}
 use Rattle.std.proofs.lemmas.Slice.{between_to_end}
 use Rattle.names.proofs.Slashes.{LastTold, last-root, last_none, last_some}
 use Rattle.names.proofs.paths.last_element.Goals as goal

@@ -1,4 +1,4 @@
-use Rattle.std.proofs.Common.{◌≡◌, ◌-◌, [], ◌∷◌, take, Some}
+use Rattle.std.proofs.Common.{◌-◌, take, Some}
 use native.Mathlib.Nat.{sub-zero}
 use Rattle.names.proofs.Slashes.{ParentTold, parent-root, parent-none, parent-top, parent-some}
 use Rattle.names.proofs.paths.parent.Goals as goal

@@ -1,4 +1,4 @@
-use Rattle.std.proofs.Common.{◌≡◌, length, sym, arith, below_more}
+use Rattle.std.proofs.Common.{length, sym, arith, below_more}
 use Rattle.std.proofs.lemmas.Bool.{le-leb, lt-leb}
 use Rattle.names.specs.Names.{pieces}
 use Rattle.names.specs.Faults.{separates}

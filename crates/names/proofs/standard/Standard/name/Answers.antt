@@ -1,4 +1,3 @@
-use Rattle.std.proofs.Common.{refl}
 use Rattle.names.specs.Standard.{standard_name}
 use Rattle.names.proofs.standard.Standard.name.Goals as goal
 
