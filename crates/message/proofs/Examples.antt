@@ -7,7 +7,7 @@ use Rattle.signature.specs.Signatures.{single, type_end, valid_signature}
 use Rattle.wire.specs.Reading.{align_at, ended_at, fixed_at, gap, path_at, signature_at, text_at, u32_at}
 use Rattle.skip.specs.Values.{value_at, value_end}
 use Rattle.message.specs.declared.fault.HeaderFault.{HeaderFault}
-use Rattle.message.specs.declared.fault.HeaderFault.TheVariants.{ShortMessage, BadFixedPart, BadField, NotACall}
+use Rattle.message.specs.declared.fault.HeaderFault.TheVariants.{BadFixedPart, BadField, NotACall}
 use Rattle.message.specs.Fields.{Value, count, known_at, number_value, padded, text, text_value, typed_at, unknown_at, value_in}
 use Rattle.message.specs.Fixed.{fixed_of, lengths_meet, sound_fixed}
 use Rattle.message.specs.Headers.{HeaderModel, call_of, field_at, fields_of, header_of}

@@ -1,8 +1,7 @@
 -- Field after field, as the definition goes.
-use Rattle.std.proofs.Common.{◌≡◌, ℕ, zero, suc, ◌-◌, ◌<◌, ◌≤◌, ltb, List, length, None, Ok, Err, Option, Result, sym, refl, ap, ◌∙◌, arith}
+use Rattle.std.proofs.Common.{◌≡◌, ℕ, zero, suc, ◌-◌, ◌<◌, ◌≤◌, List, length, None, Ok, Err, Option, sym, refl, ap, ◌∙◌, arith}
 use Rattle.std.proofs.lemmas.Bool.{cond-false, cond-true, le-ltb, lt-ltb}
 use Rattle.wire.specs.declared.reading.ByteOrder.{ByteOrder}
-use Rattle.message.specs.declared.fault.HeaderFault.{HeaderFault}
 use Rattle.message.specs.declared.field.Flaw.{Flaw}
 use Rattle.message.specs.declared.field.FieldCode.{FieldCode}
 use Rattle.message.specs.declared.field.Flaw.TheVariants.{BadValue}

@@ -1,12 +1,12 @@
 -- One header field: the D-Bus Specification, section "Header Fields", and its table.
-use Rattle.std.specs.Prelude.{ℕ, ◌<◌, ◌≤◌, Bool, true, false, cond, ◌||◌, List, [], ◌∷◌, length, is_some, is_ok, IfOk, Some, None, Ok, Err, codes, Option, Result, ◌==◌, nat_le}
+use Rattle.std.specs.Prelude.{ℕ, ◌<◌, ◌≤◌, Bool, true, cond, ◌||◌, List, [], ◌∷◌, length, is_ok, IfOk, Some, None, Ok, Err, codes, Option, Result, ◌==◌, nat_le}
 use Rattle.std.specs.Str.{bytes_eq}
 use Rattle.names.specs.Names.{valid_bus, valid_error, valid_interface, valid_member, valid_unique}
 use Rattle.signature.specs.Depth.{left}
 use Rattle.signature.specs.declared.levels.Levels.{Levels}
 use Rattle.wire.specs.declared.reading.ByteOrder.{ByteOrder}
 use Rattle.wire.specs.declared.reading.Fault.{Fault}
-use Rattle.wire.specs.Reading.{align_at, byte_at, path_at, signature_at, string_at, u32_at}
+use Rattle.wire.specs.Reading.{align_at, path_at, signature_at, string_at, u32_at}
 use Rattle.skip.specs.Values.{value_at}
 use Rattle.message.specs.declared.fault.HeaderFault.{HeaderFault}
 use Rattle.message.specs.declared.fault.HeaderFault.TheVariants.{BadField}
@@ -20,7 +20,6 @@ use Rattle.message.specs.declared.field.NumberCode.{NumberCode}
 use Rattle.message.specs.declared.field.NumberCode.TheVariants.{ReplySerial, UnixFds}
 use Rattle.message.specs.declared.field.TextCode.{TextCode}
 use Rattle.message.specs.declared.field.TextCode.TheVariants.{Path, Interface, Member, ErrorName, Destination, Sender, Signature}
-use Rattle.message.specs.Fixed.{raised}
 
 pub data Value : Type 0 where
   text : List ℕ → Value

@@ -1,5 +1,5 @@
 -- The header of a message: the D-Bus Specification, section "Message Format".
-use Rattle.std.specs.Prelude.{ℕ, zero, suc, ◌+◌, ◌-◌, Bool, cond, List, length, take, drop, is_some, Some, None, Ok, Err, Option, Result, ◌==◌, nat_lt}
+use Rattle.std.specs.Prelude.{ℕ, zero, suc, ◌+◌, cond, List, length, take, drop, is_some, Some, None, Ok, Err, Option, Result, ◌==◌, nat_lt}
 use Rattle.std.specs.Borrow.{Bor}
 use Rattle.wire.specs.declared.reading.ByteOrder.{ByteOrder}
 use Rattle.wire.specs.declared.reading.Fault.{Fault}

@@ -223,7 +223,7 @@ mod tests {
         assert_eq!(rt; outbox.serial(), 2);
         assert_eq!(rt; outbox.left(), 2);
         assert!(rt; outbox.send(&Raw(b"gh")).is_ok());
-        assert!(rt; outbox.written() == b"abcgh");
+        assert!(rt; outbox.written() == b"abcgh".as_slice());
         assert!(rt; outbox.send(&Raw(b"i")).is_err());
         assert_eq!(rt; outbox.serial(), 3);
         outbox.clear();

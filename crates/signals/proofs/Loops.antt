@@ -1,8 +1,8 @@
 -- One part for each of a list, written in turn.
-use Rattle.std.proofs.Common.{◌≡◌, ℕ, zero, suc, ◌+◌, ◌<◌, ◌≤◌, List, [], ◌∷◌, ◌++◌, map, length, get_or, take, drop, Some, None, Ok, Err, Option, Result, sym, refl, ap, ◌∙◌, append_assoc, add-zero, add_assoc, arith, length-append}
-use Rattle.std.proofs.lemmas.List.{append-nil, take_all, take-append-drop}
+use Rattle.std.proofs.Common.{◌≡◌, ℕ, zero, suc, ◌+◌, ◌<◌, ◌≤◌, List, [], ◌∷◌, ◌++◌, map, length, get_or, take, drop, Some, None, Ok, Err, Option, Result, sym, refl, ap, ◌∙◌, append_assoc, add-zero, arith, length-append}
+use Rattle.std.proofs.lemmas.List.{append-nil, take-append-drop}
 use Rattle.std.specs.List.{slice_get}
-use Rattle.outbox.specs.Marshal.{Bytes, Part, ◌▹◌, array, contents_at, many, open_array, raw}
+use Rattle.outbox.specs.Marshal.{Bytes, Part, ◌▹◌, array, contents_at, many, open_array}
 use Rattle.outbox.specs.Pours.{Poured, room}
 use Rattle.signature.specs.declared.codes.Code.{Code}
 use Rattle.outbox.proofs.Lengths.{length-▹, length-array}

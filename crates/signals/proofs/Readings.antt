@@ -1,5 +1,5 @@
 -- What a bank's answers say of the instances.
-use Rattle.std.proofs.Common.{◌≡◌, ℕ, zero, suc, ◌+◌, ◌<◌, ◌≤◌, Bool, true, false, cond, eqb, leb, List, [], ◌∷◌, ◌++◌, map, length, get_or, take, drop, Some, None, Ok, Err, Option, Result, sym, refl, ap, ◌∙◌, arith, length-drop}
+use Rattle.std.proofs.Common.{◌≡◌, ℕ, zero, suc, ◌+◌, ◌<◌, ◌≤◌, Bool, true, false, cond, eqb, List, [], ◌∷◌, map, length, get_or, take, drop, Some, None, Ok, Err, Option, Result, sym, refl, ap, ◌∙◌, arith, length-drop}
 use lib.ListN.{length-map}
 use Rattle.std.proofs.lemmas.List.{take_at, take-map}
 use Rattle.std.proofs.lemmas.Bool.{and_parts, leb-true}
@@ -8,7 +8,7 @@ use Rattle.names.specs.Names.{all}
 use Rattle.effects.specs.declared.value.Value.{Value}
 use Rattle.effects.specs.declared.interface.PropertyFault.{PropertyFault}
 use Rattle.effects.specs.Values.{ValueModel, seen}
-use Rattle.effects.specs.Model.{InterfaceModel, PropertyModel, well_formed}
+use Rattle.effects.specs.Model.{InterfaceModel, well_formed}
 use Rattle.effects.specs.Calls.{all_after, all_answer, broken, values_of}
 use Rattle.banks.specs.declared.bank.NoSuchInstance.{NoSuchInstance}
 use Rattle.banks.specs.Rows.{asked, lent}

@@ -1,5 +1,5 @@
 -- Signals in lent records and text.
-use Rattle.std.proofs.Common.{◌≡◌, ℕ, zero, suc, ◌+◌, ◌-◌, ◌<◌, ◌≤◌, min, true, List, [], ◌∷◌, ◌++◌, length, get_or, take, drop, set, Some, sym, refl, ap, ◌∙◌, ⊎_elim, append_assoc, append-nil, add-one, arith, length-append, length-drop, length-take}
+use Rattle.std.proofs.Common.{◌≡◌, ℕ, zero, suc, ◌+◌, ◌-◌, ◌<◌, ◌≤◌, min, List, [], ◌∷◌, ◌++◌, length, get_or, take, drop, set, Some, sym, refl, ap, ◌∙◌, ⊎_elim, append_assoc, append-nil, arith, length-append, length-drop, length-take}
 use borrow.Rule.Slice.PartMut.{put_mid}
 use lib.Seq.{paste}
 use Rattle.std.proofs.lemmas.List.Edits.{paste_all, paste-paste}
@@ -12,7 +12,6 @@ use Rattle.signals.specs.declared.sink.Kind.{Kind}
 use Rattle.signals.specs.declared.sink.Kind.TheVariants.{InterfacesAdded}
 use Rattle.signals.specs.declared.list.Record.{Record}
 use Rattle.signals.specs.Lists.{before, piece, shown, told}
-use Rattle.signals.specs.Signals.{SignalModel}
 
 -- where text ends
 pub before-le : (used : ℕ) (rs : List Record) → before used rs ≤ used

@@ -1,5 +1,5 @@
 -- The bodies of an object manager's signals: the D-Bus Specification, section "org.freedesktop.DBus.ObjectManager".
-use Rattle.std.specs.Prelude.{List, [], ◌∷◌}
+use Rattle.std.specs.Prelude.{List, []}
 use Rattle.signature.specs.declared.codes.Code.TheVariants.{DictEntry, String}
 use Rattle.outbox.specs.Marshal.{Bytes, Part, ◌▹◌, array, entry, many, put_bool, put_i32, put_path, put_string, put_u32, variant}
 use Rattle.effects.specs.Values.{ValueModel, truth, whole, count, letters}

@@ -1,9 +1,9 @@
 -- Which interfaces of a bank are announced, and what hinders it.
-use Rattle.std.specs.Prelude.{◌≡◌, ℕ, cond, List, [], ◌∷◌, map, IfErr, Some, None, Ok, Err, Option, Result, ◌==◌}
+use Rattle.std.specs.Prelude.{◌≡◌, ℕ, cond, List, [], ◌∷◌, IfErr, Some, None, Ok, Err, Option, Result, ◌==◌}
 use Rattle.std.specs.List.{slice_get}
 use Rattle.outbox.specs.Marshal.{Bytes, Part}
 use Rattle.outbox.specs.Pours.{Poured}
-use Rattle.effects.specs.Model.{InterfaceModel, PropertyModel}
+use Rattle.effects.specs.Model.{InterfaceModel}
 use Rattle.signals.specs.declared.bodies.BodyError.{BodyError}
 use Rattle.signals.specs.declared.bodies.BodyError.TheVariants.{NoSuchInstance, PropertyFault, Full}
 use Rattle.signals.specs.Bodies.{Announced, own_one, standard_one}

@@ -1,10 +1,7 @@
 use Rattle.std.proofs.lemmas.Result.{err_from_is_err_and}
-use Rattle.outbox.specs.Marshal.{put_string}
-use Rattle.outbox.proofs.Chains.{poured-stops, poured-then}
-use Rattle.signals.specs.Bodies.{added_part, put_announced, put_properties, put_property, removed_part}
-use Rattle.signals.proofs.Loops.{array-stops, array-unopened, poured-empty, poured-one}
-use Rattle.signals.proofs.Pieces.{poured-as}
-use Rattle.std.proofs.Common.{ap}
+use Rattle.outbox.proofs.Chains.{poured-then}
+use Rattle.signals.specs.Bodies.{put_properties}
+use Rattle.signals.proofs.Loops.{array-stops, array-unopened}
 use Rattle.signals.proofs.bodies.put_dictionary.Goals as goal
 
 pub returns-in_err-at : goal.returns-in_err-at

@@ -1,8 +1,8 @@
-use Rattle.std.proofs.Common.{◌≡◌, ◌≤◌, length, sym, ap, ◌∙◌, arith}
+use Rattle.std.proofs.Common.{◌≡◌, ◌≤◌, length, ap, arith}
 use Rattle.std.proofs.lemmas.List.{take_all}
 use Rattle.std.proofs.lemmas.Result.{err_from_is_err_and}
 use Rattle.outbox.specs.Marshal.{many}
-use Rattle.outbox.specs.Pours.{Poured, room}
+use Rattle.outbox.specs.Pours.{room}
 use Rattle.signals.specs.Bodies.{put_property}
 use Rattle.signals.specs.Readable.{announced}
 use Rattle.signals.proofs.Loops.{poured-none}

@@ -1,4 +1,4 @@
-use Rattle.std.proofs.Common.{◌+◌, drop, ap, ◌∙◌, arith}
+use Rattle.std.proofs.Common.{◌+◌, drop, ap, ◌∙◌}
 use Rattle.signals.specs.Lists.{before}
 use Rattle.signals.proofs.Told.{before-end, before-step}
 use Rattle.signals.proofs.list.text_before.Goals as goal

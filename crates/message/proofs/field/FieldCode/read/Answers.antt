@@ -1,4 +1,4 @@
-use Rattle.std.proofs.Common.{◌∙◌, rules}
+use Rattle.std.proofs.Common.{rules}
 use Rattle.message.specs.Fields.{value_in}
 use Rattle.message.proofs.field.FieldCode.read.Goals as goal
 
