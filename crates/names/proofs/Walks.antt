@@ -77,10 +77,13 @@ following-none p q e = sym (following-parts p q ∙ cond-false _ _ _ (sym e))
 abbrev pub Fronts : Bytes → Bytes → Bool → Type 0
 Fronts p q r = bytes_eq (take (length p) q) p ≡ r
 
+fronts-same : (p q : Bytes) (r : Bool) → Fronts p q r → r ≡ bytes_eq (take (length p) q) p
+fronts-same p q r h = sym h
+
 pub stripped : (p q : Bytes) (o : Option (Bor Bytes)) →
     MatchOption o (Fronts p q false) (λ x. Fronts p q true × (x.now ≡ drop (length p) q) × (length x.now + length p ≡ length q)) → option_map (λ x. x.now) o ≡ following p q
-stripped p q None h = following-none p q (sym h)
-stripped p q (Some x) h = ap Some h.1 ∙ following-some p q (sym h.0)
+stripped p q None h = following-none p q (fronts-same p q false h)
+stripped p q (Some x) h = ap Some h.1 ∙ following-some p q (fronts-same p q true h.0)
 
 -- a slash and more
 pub deeper-parts : (s : Bytes) → deeper (Some s) ≡ ltb 1 (length s) && eqb (get_or s 0 0) 47

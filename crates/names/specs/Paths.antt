@@ -1,5 +1,5 @@
 -- Object paths by their elements: what lies beneath, the order, the parent, and the limits of a path that the server makes.
-use Rattle.std.specs.Prelude.{◌≡◌, ℕ, ◌+◌, ◌<◌, Bool, true, false, cond, ◌&&◌, ◌||◌, leb, List, [], ◌∷◌, ◌++◌, length, take, drop, Some, None, Option, ◌==◌, nat_le, nat_lt}
+use Rattle.std.specs.Prelude.{◌≡◌, ℕ, ◌+◌, ◌<◌, Bool, true, false, cond, ◌&&◌, ◌||◌, List, [], ◌∷◌, ◌++◌, length, take, drop, Some, None, Option, ◌==◌, nat_le, nat_lt}
 use Rattle.std.specs.Str.{bytes_eq}
 use Rattle.names.specs.Names.{Bytes, all, elements_of, valid_path}
 
@@ -112,7 +112,7 @@ last_bytes p = cond (bytes_eq p (47 ∷ [])) None (after_last p)
 
 -- At most 16 elements, of at most 63 bytes each.
 abbrev pub few_and_short : List Bytes → Bool
-few_and_short es = nat_le (length es) 16 && all (λ e. leb (length e) 63) es
+few_and_short es = nat_le (length es) 16 && all (λ e. nat_le (length e) 63) es
 
 -- A path that the server makes has at most 255 bytes besides.
 unfoldable pub makeable : Bytes → Bool

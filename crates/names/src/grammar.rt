@@ -1,6 +1,6 @@
-ghost use Rattle.std.specs.Prelude.{◌≡◌, Bool, true, false, cond, length, is_ok, IfErr, MatchOption, nat_le};
+ghost use Rattle.std.specs.Prelude.{◌≡◌, true, length, is_ok, IfErr, MatchOption, nat_le};
 ghost use Rattle.std.specs.Option.{option_map};
-ghost use Rattle.names.specs.Names.{letter, digit, word, hyphen, pieces, valid};
+ghost use Rattle.names.specs.Names.{letter, digit, word, pieces, valid};
 ghost use Rattle.names.specs.Scan.{step, led};
 ghost use Rattle.names.specs.Faults.{Breaks, separates, opens, goes_on, spells, several, good, fits, reason_at, Refusal};
 

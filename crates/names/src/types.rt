@@ -1,4 +1,4 @@
-ghost use Rattle.std.specs.Prelude.{◌≡◌, true, is_ok, IfOk, IfErr};
+ghost use Rattle.std.specs.Prelude.{◌≡◌, is_ok, IfOk, IfErr};
 ghost use Rattle.names.specs.declared.grammar.Alphabet.TheVariants.{Name as of_name, Member as of_member, WellKnown as of_well_known, Unique as of_unique};
 ghost use Rattle.names.specs.Names.{valid_interface, valid_error, valid_member, valid_unique, valid_well_known, valid_bus};
 ghost use Rattle.names.specs.Faults.{Refusal};

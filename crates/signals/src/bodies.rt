@@ -1,12 +1,11 @@
 // The bodies of signals, written from the first of the lent bytes on.
-ghost use Rattle.std.specs.Prelude.{◌≡◌, ℕ, ◌≤◌, List, [], ◌∷◌, map, length, take, Ok};
+ghost use Rattle.std.specs.Prelude.{◌≡◌, ℕ, ◌≤◌, [], ◌∷◌, map, take, Ok};
 ghost use Rattle.std.specs.List.{slice_get};
 ghost use Rattle.std.specs.Option.{option_map};
 ghost use Rattle.names.specs.Standard.{standard_name};
 ghost use Rattle.effects.specs.Calls.{values_of};
-ghost use Rattle.effects.specs.Model.{PropertyModel};
 ghost use Rattle.effects.specs.Values.{seen};
-ghost use Rattle.outbox.specs.Marshal.{array, entry, many, put_string};
+ghost use Rattle.outbox.specs.Marshal.{entry, many, put_string};
 ghost use Rattle.outbox.specs.Pours.{Poured};
 ghost use Rattle.signals.specs.Bodies.{added_part, put_announced, put_properties, put_property, put_value, removed_part, standard_one};
 ghost use Rattle.signals.specs.Readable.{Bodied, announced, readable, readable_one};

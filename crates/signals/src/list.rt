@@ -1,9 +1,9 @@
 // A sink over memory that the caller lends.
-ghost use Rattle.std.specs.Prelude.{◌≡◌, min, [], length, is_ok};
+ghost use Rattle.std.specs.Prelude.{◌≡◌, min, [], length};
 ghost use Rattle.std.specs.List.{slice_get};
 ghost use Rattle.std.specs.Option.{option_map};
 ghost use Rattle.signals.specs.Lists.{before, list_fits, list_waiting, piece};
-ghost use Rattle.signals.specs.Signals.{offered, seen_signal};
+ghost use Rattle.signals.specs.Signals.{seen_signal};
 
 use crate::sink::{Kind, Refused, Signal, Sink};
 
