@@ -1,14 +1,13 @@
 -- One write after another.
 use Rattle.std.proofs.Common.{◌≡◌, ℕ, ◌+◌, ◌-◌, ◌<◌, ◌≤◌, [], ◌∷◌, ◌++◌, length, take, drop, replicate, Ok, Err, Result, sym, refl, ap, ◌∙◌, append_assoc, arith, length-append}
-use borrow.Rule.Slice.PartMut.{put_mid}
 use lib.Seq.{paste}
 use Rattle.std.proofs.lemmas.List.Edits.{length-paste, paste_all, paste-paste}
 use Rattle.std.proofs.lemmas.List.{length-take-le, take_at, drop_at, take-take, take-replicate}
-use Rattle.std.proofs.lemmas.Slice.{put_mid-paste}
 use Rattle.signature.specs.declared.codes.Code.{Code}
 use Rattle.signature.specs.Codes.{align_of}
 use Rattle.wire.specs.Reading.{gap}
 use Rattle.signature.proofs.Table.{align-small}
+use Rattle.std.specs.Prelude.{IsErrAnd}
 use Rattle.outbox.specs.Marshal.{Bytes, Part, ◌▹◌, pad, raw}
 use Rattle.outbox.specs.Pours.{Kept, Poured, Refused, Wrote, room, written}
 use Rattle.outbox.proofs.Lengths.{gap-lt, length-▹}
@@ -83,18 +82,15 @@ poured-then was between is f g (Err e) v w a b = record { by = then-refused was 
 pub poured-stops : {E F : Type 0} (was is : Bytes) (f : ℕ) (d : E) (e : F) (v w : Part) → Poured was f is (Err d) v → Poured was f is (Err e) (v ▹ w)
 poured-stops was is f d e v w a = record { by = record { kept = a.by.kept; full = omega (arith, length-▹ v w f, a.by.full) } }
 
+-- the same, at the exit of a `?`
+pub poured_stopped : {E F : Type 0} (Q : F → Type 0) (was is : Bytes) (f : ℕ) (d : E) (r : Result ℕ F) (v w : Part) → IsErrAnd r Q → Poured was f is (Err d) v → Poured was f is r (v ▹ w)
+poured_stopped Q was is f d (Ok n) v w h a = absurd h
+poured_stopped Q was is f d (Err e) v w h a = poured-stops was is f d e v w a
+
 -- only the bytes at the place count
 pub poured-same : {E : Type 0} (was is : Bytes) (f : ℕ) (r : Result ℕ E) (v w : Part) → v f ≡ w f → Poured was f is r v → Poured was f is r w
 poured-same was is f (Ok h) v w e a = record { by = record { bytes = a.by.bytes ∙ ap (written was f) e; ends = a.by.ends ∙ ap (λ l. f + length l) e; fits = a.by.fits } }
 poured-same was is f (Err d) v w e a = record { by = record { kept = a.by.kept; full = omega (arith, ap length e, a.by.full) } }
-
--- a copy into s[f..f + n]
-pub raw-fits : {E : Type 0} (was xs ys : Bytes) (f k : ℕ) → f + length xs ≤ room was → ys ≡ xs → k ≡ length xs → Poured {E = E} was f (put_mid f k was ys) (Ok (f + length xs)) (raw xs)
-raw-fits was xs ys f k le e n =
-    record { by = record { bytes = put_mid-paste f k was ys xs (length xs) e (sym n) refl ∙ sym (as-paste was f xs); ends = refl; fits = le } }
-
-pub raw-full : {E : Type 0} (was xs : Bytes) (f : ℕ) (e : E) → room was < f + length xs → Poured was f was (Err e) (raw xs)
-raw-full was xs f e lt = record { by = record { kept = record { below = refl; size = refl }; full = lt } }
 
 zeros : (n : ℕ) → n ≤ 8 → take {A = ℕ} (n - 0) (0 ∷ 0 ∷ 0 ∷ 0 ∷ 0 ∷ 0 ∷ 0 ∷ 0 ∷ []) ≡ replicate n 0
 zeros n le = let e : n - 0 ≡ n = omega arith in rw e (take-replicate n 8 0 le)

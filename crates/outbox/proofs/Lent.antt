@@ -6,12 +6,8 @@ use Rattle.std.proofs.lemmas.Bool.{cases_lt}
 use Rattle.outbox.specs.declared.drafts.Draft.{Draft}
 use Rattle.outbox.specs.Drafts.{Went, drafted, reached}
 use Rattle.outbox.specs.Marshal.{Bytes, Part, ◌▹◌}
-use Rattle.outbox.specs.Pours.{Patched, Poured, room}
-use Rattle.outbox.proofs.Chains.{length-written, poured-stops, poured-then, wrote-size}
-
-pub poured-size : {E : Type 0} (was is : Bytes) (f : ℕ) (r : Result ℕ E) (w : Part) → Poured was f is r w → length is ≡ length was
-poured-size was is f (Ok g) w a = wrote-size was is f g w a.by
-poured-size was is f (Err e) w a = a.by.kept.size
+use Rattle.outbox.specs.Pours.{Poured, room}
+use Rattle.outbox.proofs.Chains.{poured-stops, poured-then}
 
 pub poured-at : {E : Type 0} (a a' b b' : Bytes) (f f' : ℕ) (r r' : Result ℕ E) (w : Part) → a ≡ a' → b ≡ b' → f ≡ f' → r ≡ r' → Poured a f b r w → Poured a' f' b' r' w
 poured-at a a' b b' f f' r r' w p q s t h = rw (sym p, sym q, sym s, sym t) h
@@ -78,13 +74,6 @@ added {E} was is f s a n w p q below h =
     let l : n ≡ length (w 0) = omega (arith, m.by.ends) in
     let t : take n (drop f is) ≡ w 0 = ap (take n) m.by.bytes ∙ take_at (w 0) _ n (sym l) in
     (take_more f n is ∙ ap (λ x. x ++ take n (drop f is)) k ∙ ap (λ x. take f was ++ x) t, l, omega (arith, m.by.fits))
-
-pub patched-size : {T E : Type 0} (was is : Bytes) (at : ℕ) (r : Result T E) (xs : Bytes) → Patched was at is r xs → length is ≡ length was
-patched-size was is at (Ok t) xs a = ap length a.by.0 ∙ length-written was at xs (omega (arith, a.by.1))
-patched-size was is at (Err e) xs a = a.by.0.size
-
-pub patched-at : {T E : Type 0} (a a' b b' : Bytes) (f : ℕ) (r : Result T E) (xs : Bytes) → a ≡ a' → b ≡ b' → Patched a f b r xs → Patched a' f b' r xs
-patched-at a a' b b' f r xs p q h = rw (sym p, sym q) h
 
 -- and one that was refused
 pub declined : {E : Type 0} (was is : Bytes) (f s a : ℕ) (e : E) (w : Part) → s ≡ f → a ≡ 0 → take s is ≡ take s was → Poured (drop s was) a (drop s is) (Err e) w

@@ -26,7 +26,8 @@ impl Marshal for Raw<'_> {
     }
 }
 
-// How far the bytes hold messages, and the serial of the next one.
+// How far the bytes hold messages, and the serial of the next one. The bytes stand beside it: they are the caller's fixed
+// memory, lent to each write, and a draft borrows the mark alone.
 #[derive(Drop)]
 pub struct Mark {
     fill: usize,
@@ -96,8 +97,7 @@ impl<'a> Draft<'a> {
     {
         let at = self.len();
         let from = self.start(bytes);
-        let end = bytes.len();
-        let len = value.marshal(&mut bytes[from..end], at)?;
+        let len = value.marshal(&mut bytes[from..], at)?;
         self.mark.fill = self.start + len;
         Ok(())
     }
@@ -120,8 +120,7 @@ impl<'a> Draft<'a> {
         ensures size { length bytes.new ≡ length bytes.old }
     {
         let from = self.start(bytes);
-        let end = bytes.len();
-        patch_u32(&mut bytes[from..end], at, n)
+        patch_u32(&mut bytes[from..], at, n)
     }
 
     // Takes the draft apart, so that its `drop` does not run: the mark stays behind the message, and its serial is used.
@@ -130,15 +129,12 @@ impl<'a> Draft<'a> {
         ensures serial { self.exit.0.now.serial ≡ following self.entry.mark.now.serial }
     {
         let Draft { mark, start: _ } = self;
-        mark.serial = if mark.serial == u32::MAX {
-            1
-        } else {
-            mark.serial + 1
-        };
+        mark.serial = mark.serial.checked_add(1).unwrap_or(1);
     }
 }
 
-// The caller's bytes, with the mark of what they hold.
+// The caller's bytes, with the mark of what they hold. No invariant ties the two: both are public, whoever puts them
+// together owes nothing, and each method has an answer for a mark past the bytes.
 #[derive(Drop)]
 pub struct Outbox<'a> {
     pub bytes: &'a mut [u8],
@@ -162,7 +158,7 @@ impl<'a> Outbox<'a> {
         ensures { result.now ≡ kept self.now }
     {
         let end = self.bytes.len().min(self.mark.fill);
-        &self.bytes[0..end]
+        &self.bytes[..end]
     }
 
     // How many bytes they have.
@@ -183,8 +179,7 @@ impl<'a> Outbox<'a> {
     pub fn serial(&self) -> u32
         ensures { result ≡ self.now.mark.serial }
     {
-        let mark = &self.mark;
-        mark.serial
+        self.mark.serial
     }
 
     // No messages any more; serials go on.

@@ -1,4 +1,6 @@
 // Writing values into lent bytes, little-endian. A place is an offset from the message's first byte, which is the first of the bytes.
+// The bytes and a place go in and the end comes out: a write that fails leaves the caller's place as it was. A writer that
+// keeps its place would have to put it back on every way out.
 ghost use Rattle.std.specs.Prelude.{◌≡◌, ◌<◌, ◌≤◌, true, false, [], ◌∷◌, length, is_ok, Ok};
 ghost use Rattle.names.specs.Names.{valid_path};
 ghost use Rattle.outbox.specs.Marshal.{◌▹◌, Bytes, Part, array, ended, le32, open_array, pad, put_bool, put_i32, put_path, put_signature, put_string, put_text, put_u32, put_word, raw};
@@ -18,9 +20,9 @@ use signature::codes::Code;
 pub struct Full;
 
 // How far a message may go: an array may have so many bytes, and a message twice as many.
-pub const MAX_LEN: usize = 67108864;
+pub const MAX_LEN: usize = 1 << 26;
 
-const ZEROS: [u8; 8] = [0, 0, 0, 0, 0, 0, 0, 0];
+const ZEROS: [u8; 8] = [0; 8];
 
 // Bytes as they are.
 pub fn put_raw(bytes: &mut [u8], from: usize, more: &[u8]) -> Result<usize, Full>
@@ -82,7 +84,7 @@ pub fn put_bool(bytes: &mut [u8], from: usize, b: bool) -> Result<usize, Full>
     ensures wrote { Poured bytes.old from bytes.new result (put_bool b) }
     ensures reads { ReadsBack (bool_at Little) bytes.new from result b }
 {
-    put_word(bytes, from, Code::Boolean, if b { 1 } else { 0 })
+    put_word(bytes, from, Code::Boolean, u32::from(b))
 }
 
 // A text and the zero that ends it.
@@ -141,19 +143,16 @@ pub fn patch_u32(bytes: &mut [u8], at: usize, n: u32) -> Result<(), Full>
     Ok(())
 }
 
-// The most bytes that a signature may have.
-const MAX_SIGNATURE: usize = 255;
-
 // A signature. One of more than 255 bytes cannot be written.
 pub fn put_signature(bytes: &mut [u8], from: usize, signature: &[u8]) -> Result<usize, Full>
     ensures wrote { length signature.now ≤ 255 → Poured bytes.old from bytes.new result (put_signature signature.now) }
     ensures long { 255 < length signature.now → (is_ok result ≡ false) × (bytes.new ≡ bytes.old) }
     ensures reads { valid_signature signature.now ≡ true → ReadsBack signature_at bytes.new from result signature.now }
 {
-    if signature.len() > MAX_SIGNATURE {
+    let Ok(len) = u8::try_from(signature.len()) else {
         return Err(Full);
-    }
-    let at = put_raw(bytes, from, &[signature.len() as u8])?;
+    };
+    let at = put_raw(bytes, from, &[len])?;
     put_ended(bytes, at, signature)
 }
 

@@ -1,12 +1,10 @@
-use Rattle.std.proofs.lemmas.Result.{err_from_is_err_and}
 use Rattle.outbox.specs.Marshal.{ended}
-use Rattle.outbox.proofs.Chains.{poured-stops, poured-then}
+use Rattle.outbox.proofs.Chains.{poured_stopped, poured-then}
 use Rattle.outbox.proofs.writing.put_ended.Goals as goal
 
 pub returns-in_err-at : goal.returns-in_err-at
 unfolding ended
-returns-in_err-at c =
-    let p = err_from_is_err_and c.from_residual.result c.from_residual.ensures.1 in rw p.1 (poured-stops _ _ _ _ _ _ _ c.in_err-at.ensures)
+returns-in_err-at c = poured_stopped _ _ _ _ _ _ _ _ c.from_residual.ensures.1 c.in_err-at.ensures
 
 pub returns : goal.returns
 unfolding ended

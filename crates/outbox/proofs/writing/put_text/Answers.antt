@@ -1,7 +1,6 @@
 use Rattle.std.proofs.Common.{arith}
-use Rattle.std.proofs.lemmas.Result.{err_from_is_err_and}
 use Rattle.outbox.specs.Marshal.{put_text}
-use Rattle.outbox.proofs.Chains.{poured-long, poured-stops, poured-then}
+use Rattle.outbox.proofs.Chains.{poured-long, poured_stopped, poured-then}
 use Rattle.outbox.proofs.Lengths.{length-text}
 use Rattle.outbox.proofs.writing.put_text.Goals as goal
 
@@ -10,8 +9,7 @@ returns-then-text-gt-MAX_LEN c = poured-long _ _ _ _ (omega (arith, length-text 
 
 pub returns-in_err-at : goal.returns-in_err-at
 unfolding put_text
-returns-in_err-at c =
-    let p = err_from_is_err_and c.from_residual.result c.from_residual.ensures.1 in rw p.1 (poured-stops _ _ _ _ _ _ _ c.in_err-at.ensures)
+returns-in_err-at c = poured_stopped _ _ _ _ _ _ _ _ c.from_residual.ensures.1 c.in_err-at.ensures
 
 pub returns : goal.returns
 unfolding put_text
