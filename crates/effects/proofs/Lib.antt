@@ -1,5 +1,5 @@
+pub mod Alls
 pub mod Examples
-pub mod Fronts
 pub mod Laws
-pub mod Plain
 pub mod Shapes
+pub mod Tables

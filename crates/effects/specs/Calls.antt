@@ -31,6 +31,10 @@ info_of p = record { name = p.name; type = p.type; access = p.access }
 abbrev pub broken : ℕ → PropertyFault
 broken f = record { number = f }
 
+-- whether values can be read at this fault number
+abbrev pub readable : ℕ → Result (Unit {0}) PropertyFault
+readable f = cond (f == 0) (Ok tt) (Err (broken f))
+
 abbrev pub told : ℕ → Option PropertyModel → Option (Result ValueModel PropertyFault)
 told f None = None
 told f (Some p) = Some (cond (f == 0) (Ok p.value) (Err (broken f)))

@@ -1,6 +1,7 @@
 pub mod Calls
 pub mod Makes
 pub mod Model
+pub mod Printed
 pub mod Shapes
 pub mod Texts
 pub mod Values

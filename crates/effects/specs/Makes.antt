@@ -71,5 +71,9 @@ tuner_with cents locked f = record {
   fault = f;
 }
 
+-- the fault number of one that is unplugged, or not
+abbrev pub fault_of : Bool → ℕ
+fault_of unplugged = cond unplugged 1 0
+
 abbrev pub tuner_model : Tuner → InterfaceModel
-tuner_model t = tuner_with t.cents t.locked t.fault
+tuner_model t = tuner_with t.cents t.locked (fault_of t.unplugged)

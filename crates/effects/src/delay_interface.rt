@@ -1,5 +1,7 @@
-ghost use Rattle.std.specs.Prelude.{◌≡◌, ◌^◌, false, [], nat_lt};
-ghost use Rattle.effects.specs.Makes.{delay_model, delay_with};
+ghost use Rattle.std.specs.Prelude.{◌≡◌, ◌^◌, false, [], codes, nat_lt};
+ghost use Rattle.effects.specs.Values.{seen};
+ghost use Rattle.effects.specs.Calls.{set_answer, after_set, seen_reply};
+ghost use Rattle.effects.specs.Makes.{delay_model, delay_with, check};
 ghost use Rattle.std.proofs.Common.{arith};
 ghost use Rattle.std.proofs.lemmas.Bool.{lt-ltb};
 ghost use Rattle.names.specs.Names.{valid};
@@ -15,11 +17,26 @@ use crate::interface::{
 };
 use crate::text::Text;
 use crate::value::{Signature, Value};
-use names::same;
 
-const PROPERTIES: usize = 3;
+static PROPERTIES: [PropertyInfo<'static>; 3] = [
+    PropertyInfo {
+        name: b"Bypassed",
+        signature: Signature::Bool,
+        access: Access::Read,
+    },
+    PropertyInfo {
+        name: b"Feedback",
+        signature: Signature::U32,
+        access: Access::ReadWrite,
+    },
+    PropertyInfo {
+        name: b"Label",
+        signature: Signature::Str,
+        access: Access::ReadWrite,
+    },
+];
 
-const METHODS: usize = 2;
+static METHODS: [&[u8]; 2] = [b"Bypass", b"Check"];
 
 impl Delay {
     pub fn new() -> Delay
@@ -32,10 +49,39 @@ impl Delay {
         }
     }
 
-    fn is_hot(&self) -> bool
-        ensures { result ≡ nat_lt 900 self.now.feedback }
+    fn set_feedback(&mut self, value: &Value) -> Result<(), SetRefusal>
+        ensures answer { result ≡ set_answer (delay_model self.old) (codes "Feedback") (seen value.now) }
+        ensures after { delay_model self.new ≡ after_set (codes "Feedback") (seen value.now) (delay_model self.old) }
     {
-        self.feedback > 900
+        let Value::U32(n) = *value else {
+            return Err(SetRefusal::WrongType);
+        };
+        if n > 999 {
+            return Err(SetRefusal::OutOfRange);
+        }
+        self.feedback = n;
+        Ok(())
+    }
+
+    fn set_label(&mut self, value: &Value) -> Result<(), SetRefusal>
+        ensures answer { result ≡ set_answer (delay_model self.old) (codes "Label") (seen value.now) }
+        ensures after { delay_model self.new ≡ after_set (codes "Label") (seen value.now) (delay_model self.old) }
+    {
+        let Value::Str(t) = *value else {
+            return Err(SetRefusal::WrongType);
+        };
+        self.label = t;
+        Ok(())
+    }
+
+    // An error where much is fed back.
+    fn check(&self) -> Result<(), &'static [u8]>
+        ensures { seen_reply result ≡ check (delay_model self.now).properties 0 }
+    {
+        if self.feedback > 900 {
+            return Err(b"com.example.Pedal.Error.TooHot");
+        }
+        Ok(())
     }
 }
 
@@ -57,52 +103,20 @@ impl Interface for Delay {
         b"com.example.Pedal.Delay"
     }
 
-    fn property_count(&self) -> usize {
-        PROPERTIES
+    fn properties(&self) -> &[PropertyInfo<'_>] {
+        &PROPERTIES
     }
 
-    fn property(&self, i: usize) -> Option<PropertyInfo<'_>> {
-        match i {
-            0 => Some(PropertyInfo {
-                name: b"Bypassed",
-                signature: Signature::Bool,
-                access: Access::Read,
-            }),
-            1 => Some(PropertyInfo {
-                name: b"Feedback",
-                signature: Signature::U32,
-                access: Access::ReadWrite,
-            }),
-            2 => Some(PropertyInfo {
-                name: b"Label",
-                signature: Signature::Str,
-                access: Access::ReadWrite,
-            }),
-            _ => None,
-        }
-    }
-
-    fn method_count(&self) -> usize {
-        METHODS
-    }
-
-    fn method(&self, i: usize) -> Option<&[u8]> {
-        match i {
-            0 => Some(b"Bypass"),
-            1 => Some(b"Check"),
-            _ => None,
-        }
+    fn methods(&self) -> &[&[u8]] {
+        &METHODS
     }
 
     fn get(&self, name: &[u8], into: &mut Value) -> Option<Result<(), PropertyFault>> {
-        *into = if same(name, b"Bypassed") {
-            Value::Bool(self.bypassed)
-        } else if same(name, b"Feedback") {
-            Value::U32(self.feedback)
-        } else if same(name, b"Label") {
-            Value::Str(self.label)
-        } else {
-            return None;
+        *into = match name {
+            b"Bypassed" => Value::Bool(self.bypassed),
+            b"Feedback" => Value::U32(self.feedback),
+            b"Label" => Value::Str(self.label),
+            _ => return None,
         };
         Some(Ok(()))
     }
@@ -115,47 +129,29 @@ impl Interface for Delay {
     }
 
     fn set_mut(&mut self, name: &[u8], value: &Value) -> Result<(), SetRefusal> {
-        if same(name, b"Bypassed") {
-            return Err(SetRefusal::ReadOnly);
+        match name {
+            b"Bypassed" => Err(SetRefusal::ReadOnly),
+            b"Feedback" => self.set_feedback(value),
+            b"Label" => self.set_label(value),
+            _ => Err(SetRefusal::NoSuchProperty),
         }
-        if same(name, b"Feedback") {
-            let Value::U32(n) = *value else {
-                return Err(SetRefusal::WrongType);
-            };
-            if n > 999 {
-                return Err(SetRefusal::OutOfRange);
-            }
-            self.feedback = n;
-            return Ok(());
-        }
-        if same(name, b"Label") {
-            let Value::Str(t) = *value else {
-                return Err(SetRefusal::WrongType);
-            };
-            self.label = t;
-            return Ok(());
-        }
-        Err(SetRefusal::NoSuchProperty)
     }
 
     fn call<'call>(&self, name: &'call [u8]) -> DispatchResult2<'call> {
-        if same(name, b"Bypass") {
-            return DispatchResult2::RequiresMut;
+        match name {
+            b"Bypass" => DispatchResult2::RequiresMut,
+            b"Check" => DispatchResult2::Async(self.check()),
+            _ => DispatchResult2::NotFound,
         }
-        if same(name, b"Check") {
-            if self.is_hot() {
-                return DispatchResult2::Async(Err(b"com.example.Pedal.Error.TooHot"));
-            }
-            return DispatchResult2::Async(Ok(()));
-        }
-        DispatchResult2::NotFound
     }
 
     fn call_mut<'call>(&mut self, name: &'call [u8]) -> DispatchResult2<'call> {
-        if same(name, b"Bypass") {
-            self.bypassed = !self.bypassed;
-            return DispatchResult2::Async(Ok(()));
+        match name {
+            b"Bypass" => {
+                self.bypassed = !self.bypassed;
+                DispatchResult2::Async(Ok(()))
+            }
+            _ => DispatchResult2::NotFound,
         }
-        DispatchResult2::NotFound
     }
 }

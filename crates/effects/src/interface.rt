@@ -14,7 +14,7 @@ pub enum Access {
     ReadWrite,
 }
 
-#[derive(Clone, Copy)]
+#[derive(Clone, Copy, Debug, PartialEq, Eq)]
 pub struct PropertyInfo<'a> {
     pub name: &'a [u8],
     pub signature: Signature,
@@ -37,7 +37,7 @@ pub enum SetRefusal {
 }
 
 // What became of a call that was handed to an interface.
-#[derive(Clone, Copy)]
+#[derive(Clone, Copy, Debug, PartialEq, Eq)]
 pub enum DispatchResult2<'call> {
     // The interface does not have the method.
     NotFound,
@@ -54,21 +54,40 @@ pub trait Interface {
     fn name(&self) -> &[u8]
         ensures { result.now ≡ (model self.now).name };
 
-    fn property_count(&self) -> usize
-        ensures { result ≡ length (model self.now).properties };
+    // The properties by ascending name: a property's number is its place here.
+    fn properties(&self) -> &[PropertyInfo<'_>]
+        ensures { map seen_info result.now ≡ map info_of (model self.now).properties };
 
-    // The properties are numbered by ascending name.
+    // The methods' names in ascending order.
+    fn methods(&self) -> &[&[u8]]
+        ensures { map (λ x. x.now) result.now ≡ map (λ k. k.name) (model self.now).methods };
+
+    fn property_count(&self) -> usize
+        ensures { result ≡ length (model self.now).properties }
+    {
+        self.properties().len()
+    }
+
     fn property(&self, i: usize) -> Option<PropertyInfo<'_>>
-        ensures { option_map seen_info result ≡ option_map info_of (slice_get (model self.now).properties i) };
+        ensures { option_map seen_info result ≡ option_map info_of (slice_get (model self.now).properties i) }
+    {
+        self.properties().get(i).copied()
+    }
 
     fn method_count(&self) -> usize
-        ensures { result ≡ length (model self.now).methods };
+        ensures { result ≡ length (model self.now).methods }
+    {
+        self.methods().len()
+    }
 
-    // The methods' names, numbered in ascending order.
     fn method(&self, i: usize) -> Option<&[u8]>
-        ensures { option_map (λ x. x.now) result ≡ option_map (λ k. k.name) (slice_get (model self.now).methods i) };
+        ensures { option_map (λ x. x.now) result ≡ option_map (λ k. k.name) (slice_get (model self.now).methods i) }
+    {
+        self.methods().get(i).copied()
+    }
 
-    // None if there is no such property.
+    // None if there is no such property. The value goes into a place that the caller lends, as do those of `get_all`: no
+    // memory is allocated for them.
     fn get(&self, name: &[u8], into: &mut Value) -> Option<Result<(), PropertyFault>>
         ensures answer { result ≡ get_answer (reads (model self.now) name.now) }
         ensures value { seen into.new ≡ filled (reads (model self.now) name.now) (seen into.old) };

@@ -2,6 +2,7 @@
 
 pub mod delay;
 pub mod delay_interface;
+pub mod display;
 pub mod interface;
 pub mod text;
 pub mod tuner;

@@ -1,12 +1,13 @@
-ghost use Rattle.std.specs.Prelude.{◌≡◌, ◌≤◌, [], length, take};
+ghost use Rattle.std.specs.Prelude.{◌≡◌, ◌≤◌, ◌-◌, [], length, take, drop, replicate};
 ghost use Rattle.std.specs.Option.{option_map};
 ghost use Rattle.effects.specs.Texts.{printable, plain};
 ghost use Rattle.effects.specs.Values.{text_of, as_text, seen, type_of, code_of};
 
 use crate::text::Text;
+use std::str::from_utf8;
 
 // The value of a property.
-#[derive(Clone, Copy)]
+#[derive(Clone, Copy, Debug, PartialEq, Eq)]
 pub enum Value {
     Bool(bool),
     I32(i32),
@@ -37,7 +38,7 @@ impl Value {
 }
 
 impl Signature {
-    // The type's code in a signature.
+    // The type's code in a signature. A method, since `u8::from(signature)` would not say which number it is.
     pub fn code(self) -> u8
         ensures { result ≡ code_of self }
     {
@@ -60,22 +61,17 @@ fn is_printable(b: u8) -> bool
 fn is_plain(bytes: &[u8]) -> bool
     ensures { result ≡ plain bytes.now }
 {
-    for b in bytes {
-        if !is_printable(*b) {
-            return false;
-        }
-    }
-    true
+    bytes.iter().all(|b| is_printable(*b))
 }
 
 // The bytes, and zeros after them.
 fn padded(from: &[u8]) -> [u8; 64]
     requires { length from.now ≤ 64 }
-    ensures { take (length from.now) result ≡ from.now }
+    ensures text { take (length from.now) result ≡ from.now }
+    ensures rest { drop (length from.now) result ≡ replicate (64 - length from.now) 0 }
 {
     let mut bytes = [0; 64];
-    let len = from.len();
-    bytes[0..len].copy_from_slice(from);
+    bytes[..from.len()].copy_from_slice(from);
     bytes
 }
 
@@ -106,6 +102,12 @@ impl Text {
     pub fn as_bytes(&self) -> &[u8]
         ensures { result.now ≡ text_of self.now }
     {
-        &self.bytes[0..self.len]
+        &self.bytes[..self.len]
+    }
+
+    pub fn as_str(&self) -> &str
+        ensures { result.now ≡ text_of self.now }
+    {
+        from_utf8(self.as_bytes()).unwrap()
     }
 }

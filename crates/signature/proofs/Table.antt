@@ -1,25 +1,34 @@
 -- The table of type codes has what the Specification has, and a lookup goes through it row by row.
-use Rattle.std.proofs.Common.{◌≡◌, ℕ, ◌+◌, ◌<◌, ◌≤◌, cond, eqb, List, map, length, get_or, drop, Some, refl, add-one, lit<, lit≤, drop-cons}
+use Rattle.std.proofs.Common.{◌≡◌, ℕ, ◌<◌, ◌≤◌, Bool, true, false, cond, eqb, List, [], ◌∷◌, map, get_or, Some, None, Option, refl, ap, ◌∙◌, lit<, lit≤}
 use denote.Enum.Declared.{tag_of}
 use Rattle.signature.specs.contracts.codes.Code.{the_type}
 use Rattle.signature.specs.declared.codes.Code.{Code}
 use Rattle.signature.specs.declared.codes.Code.TheVariants.{Byte, Boolean, Int16, Uint16, Int32, Uint32, Int64, Uint64, Double, UnixFd, String, ObjectPath, Signature, Array, Structure, DictEntry, Variant}
-use Rattle.signature.specs.Codes.{Row, align_of, code_of, every_code, lookup, row_of}
+use Rattle.std.specs.List.{find}
+use Rattle.std.specs.Option.{ok_or, option_map}
+use Rattle.std.specs.Result.{IfErr}
+use Rattle.signature.specs.declared.codes.Row.{Row}
+use Rattle.signature.specs.declared.codes.UnknownCode.{UnknownCode}
+use Rattle.signature.specs.Codes.{align_of, amongst, code_of, every_code, letter_of, lookup, row_of}
 
 abbrev pub nothing : Row
-nothing = (0, Byte, 0)
+nothing = record { letter = 0; code = Byte; alignment = 0 }
 
--- one turn of a lookup
-pub lookup-step : (b : ℕ) (rs : List Row) (i : ℕ) → i < length rs → lookup b (drop i rs) ≡ cond (eqb (get_or rs i nothing).0 b) (Some (get_or rs i nothing).1) (lookup b (drop (i + 1) rs))
-lookup-step b rs i h = rw (add-one, drop-cons rs i nothing)
+map_cond : {A B : Type 0} (f : A → B) (t : Bool) (x : A) (o : Option A) → option_map f (cond t (Some x) o) ≡ cond t (Some (f x)) (option_map f o)
+map_cond f true x o = refl
+map_cond f false x o = refl
+
+lookup-rows : (b : ℕ) (cs : List Code) → lookup b (map row_of cs) ≡ amongst cs b
+lookup-rows b [] = refl
+lookup-rows b (c ∷ cs) = map_cond (λ r. r.code) (eqb (letter_of c) b) (row_of c) (find (λ r. eqb r.letter b) (map row_of cs)) ∙ ap (cond (eqb (letter_of c) b) (Some c)) (lookup-rows b cs)
 
 -- the whole table, at every letter
 pub lookup-codes : (b : ℕ) → lookup b (map row_of every_code) ≡ code_of b
-unfolding align_of code_of
-lookup-codes b = refl
+unfolding code_of
+lookup-codes b = lookup-rows b every_code
 
 -- and by the number of a code
-pub at_code : (c : Code) → (get_or (map row_of every_code) (tag_of the_type c) nothing).2 ≡ align_of c
+pub at_code : (c : Code) → (get_or (map row_of every_code) (tag_of the_type c) nothing).alignment ≡ align_of c
 at_code Byte = refl
 at_code Boolean = refl
 at_code Int16 = refl
@@ -57,3 +66,8 @@ align-small Array = (lit< tt, lit≤ tt)
 align-small Structure = (lit< tt, lit≤ tt)
 align-small DictEntry = (lit< tt, lit≤ tt)
 align-small Variant = (lit< tt, lit≤ tt)
+
+-- what refuses a letter holds it
+pub with_letter : (b : ℕ) (e : UnknownCode) → e.0 ≡ b → (o : Option Code) → IfErr (ok_or o e) (λ e. e.0 ≡ b)
+with_letter b e h None = h
+with_letter b e h (Some c) = tt

@@ -1,14 +1,13 @@
 -- What the walk through a signature does at each place.
 use Rattle.std.proofs.Common.{◌≡◌, ℕ, zero, suc, ◌+◌, ◌<◌, ◌≤◌, Bool, true, false, ◌&&◌, ◌||◌, eqb, leb, List, length, get_or, Some, None, Option, sym, refl, ap, ◌∙◌, ⊎_elim, arith}
 use Rattle.std.proofs.lemmas.List.{get_or_past}
-use Rattle.std.proofs.lemmas.Bool.{and_left, and_right, cases_lt, cond_both, cond-true, cond-false, eq-eqb, le-leb, lt-leb, ne_eqb, or_left}
-use Rattle.signature.specs.declared.codes.Code.{Code}
-use Rattle.signature.specs.declared.codes.Code.TheVariants.{Byte, Boolean, Int16, Uint16, Int32, Uint32, Int64, Uint64, Double, UnixFd, String, ObjectPath, Signature, Array, Structure, DictEntry, Variant}
+use Rattle.std.proofs.lemmas.Bool.{and_left, cases_lt, cond_both, cond-true, cond-false, eq-eqb, le-leb, lt-leb, or_left}
+use Rattle.std.specs.Option.{option_eq}
 use Rattle.signature.specs.declared.levels.Levels.{Levels}
 use Rattle.signature.specs.Codes.{code_of}
 use Rattle.signature.specs.Depth.{full, in_array, in_structure, in_variant}
-use Rattle.signature.specs.Repeat.{bind, go, halt, onward, repeat}
-use Rattle.signature.specs.Signatures.{Inside, ends_at, entry_end, field_turn, fields_end, first_end, holds, list_turn, single, valid_signature, type_by, type_end, type_end_by, type_step}
+use Rattle.signature.specs.Repeat.{bind, halt, onward, repeat}
+use Rattle.signature.specs.Signatures.{ends_at, entry_end, fields_end, first_end, holds, list_turn, single, valid_signature, type_end, type_end_by, type_step}
 
 -- so many levels are left inside, if one may go inside at all
 abbrev pub AllIs : ℕ → Option Levels → Type 0
@@ -73,6 +72,8 @@ pub type-here : (sig : List ℕ) (in_arr : Bool) (l : Levels) (at : ℕ) → typ
 unfolding type_end
 type-here sig in_arr l at = here sig in_arr l at l.all refl
 
+pub ruleset walk = (type-here)
+
 -- a `bind` whose first part is known
 pub through : {A B : Type 0} {o : Option A} {x : A} (f : A → Option B) → Some x ≡ o → bind o f ≡ f x
 through f e = ap (λ o. bind o f) (sym e)
@@ -85,50 +86,8 @@ pub none-past : (sig : List ℕ) (at : ℕ) → length sig ≤ at → None ≡ c
 unfolding code_of
 none-past sig at h = sym (ap code_of (get_or_past sig at 0 h))
 
-pub coded-inside : (sig : List ℕ) (at : ℕ) {c : Code} → Some c ≡ code_of (get_or sig at 0) → at < length sig
-coded-inside sig at {c} e =
-    ⊎_elim (λ h. h) (λ h. let z : ◌≡◌ {A = Option Code} (Some c) None = e ∙ sym (none-past sig at h) in let y : ◌≡◌ {A = ℕ} 0 1 = cc in absurd (omega arith)) (cases_lt at (length sig))
-
 pub letter-inside : (sig : List ℕ) (at b : ℕ) → get_or sig at 0 ≡ b → 0 < b → at < length sig
 letter-inside sig at b e h = ⊎_elim (λ h. h) (λ k. absurd (omega (arith, get_or_past sig at 0 k))) (cases_lt at (length sig))
-
-module _ (sig : List ℕ) (in_arr : Bool) (l : Levels) (at : ℕ) where
-  pub no_code : None ≡ code_of (get_or sig at 0) → None ≡ type_end sig in_arr l at
-  no_code e = sym (type-here sig in_arr l at ∙ stuck _ e)
-
-  -- the code tells
-  pub by_code : {c : Code} (d : Code) → Some c ≡ code_of (get_or sig at 0) → c ≡ d → type_end sig in_arr l at ≡ type_by in_arr (array_part sig l (at + 1)) (structure_part sig l (at + 1)) (entry_part sig l (at + 1)) at d
-  by_code d e is = type-here sig in_arr l at ∙ through _ e ∙ ap (type_by in_arr (array_part sig l (at + 1)) (structure_part sig l (at + 1)) (entry_part sig l (at + 1)) at) is
-
--- a code that is no array, structure or entry is the whole type
-pub alone : (in_arr : Bool) (a s e : Option ℕ) (at : ℕ) (c : Code) → (c ≡ Array → ⊥) → (c ≡ Structure → ⊥) → (c ≡ DictEntry → ⊥) → type_by in_arr a s e at c ≡ Some (at + 1)
-alone in_arr a s e at Array x y z = absurd (x refl)
-alone in_arr a s e at Structure x y z = absurd (y refl)
-alone in_arr a s e at DictEntry x y z = absurd (z refl)
-alone in_arr a s e at Byte x y z = refl
-alone in_arr a s e at Boolean x y z = refl
-alone in_arr a s e at Int16 x y z = refl
-alone in_arr a s e at Uint16 x y z = refl
-alone in_arr a s e at Int32 x y z = refl
-alone in_arr a s e at Uint32 x y z = refl
-alone in_arr a s e at Int64 x y z = refl
-alone in_arr a s e at Uint64 x y z = refl
-alone in_arr a s e at Double x y z = refl
-alone in_arr a s e at UnixFd x y z = refl
-alone in_arr a s e at String x y z = refl
-alone in_arr a s e at ObjectPath x y z = refl
-alone in_arr a s e at Signature x y z = refl
-alone in_arr a s e at Variant x y z = refl
-
-pub wider : (sig : List ℕ) (at : ℕ) (r : Option ℕ) → Inside sig (at + 1) r → Inside sig at r
-wider sig at None h = tt
-wider sig at (Some p) h = (omega (arith, h.0), h.1)
-
-pub turn_on : (f : ℕ → Option ℕ) (sig : List ℕ) (i p : ℕ) → (get_or sig i 0 ≡ 41 → ⊥) → Some p ≡ f i → field_turn f sig i ≡ go p
-turn_on f sig i p q e = cond-false _ _ _ (ne_eqb _ _ q) ∙ ap onward (sym e)
-
-pub turn-close : (f : ℕ → Option ℕ) (sig : List ℕ) (i : ℕ) → get_or sig i 0 ≡ 41 → field_turn f sig i ≡ halt (Some (i + 1))
-turn-close f sig i q = cond-true _ _ _ (eq-eqb _ _ q)
 
 -- a whole signature
 module _ (sig : List ℕ) where
@@ -143,20 +102,19 @@ module _ (sig : List ℕ) where
   pub list-none : (i : ℕ) → i < length sig → None ≡ type_end sig false full i → list_turn sig i ≡ halt None
   list-none i h e = cond-false _ _ _ (lt-leb (length sig) i h) ∙ ap onward (sym e)
 
-  pub list_on : (i p : ℕ) → i < length sig → Some p ≡ type_end sig false full i → list_turn sig i ≡ go p
-  list_on i p h e = cond-false _ _ _ (lt-leb (length sig) i h) ∙ ap onward (sym e)
-
   pub list-end : (i : ℕ) → length sig ≤ i → list_turn sig i ≡ halt (Some true)
   list-end i h = cond-true _ _ _ (le-leb (length sig) i h)
 
-  pub single-some : (e : ℕ) → Some e ≡ first_end sig → length sig ≤ 255 → eqb e (length sig) ≡ single sig
+  ends : (o : Option ℕ) → option_eq eqb o (Some (length sig)) ≡ ends_at (length sig) o
+  ends None = refl
+  ends (Some e) = refl
+
+  pub single-short : length sig ≤ 255 → option_eq eqb (first_end sig) (Some (length sig)) ≡ single sig
   unfolding single
-  single-some e p h = sym (ap (λ b. b && ends_at (length sig) (first_end sig)) (le-leb (length sig) 255 h) ∙ ap (ends_at (length sig)) (sym p))
+  single-short h = ends (first_end sig) ∙ sym (ap (λ b. b && ends_at (length sig) (first_end sig)) (le-leb (length sig) 255 h))
 
   pub single-long : 255 < length sig → leb (length sig) 255 ≡ single sig
   unfolding single
   single-long h = lt-leb (length sig) 255 h ∙ sym (and_left _ _ (lt-leb (length sig) 255 h))
 
-  pub single-none : None ≡ first_end sig → false ≡ single sig
-  unfolding single
-  single-none p = sym (and_right _ _ (ap (ends_at (length sig)) (sym p)))
+pub ruleset singles = (single-short, single-long)

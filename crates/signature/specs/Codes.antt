@@ -1,5 +1,10 @@
 -- The type codes: the D-Bus Specification, sections "Summary of types" and "Summary of D-Bus marshalling".
-use Rattle.std.specs.Prelude.{ℕ, Bool, true, false, cond, List, [], ◌∷◌, Some, None, Option, ◌==◌}
+use Rattle.std.specs.Prelude.{◌≡◌, ℕ, Bool, true, false, cond, List, [], ◌∷◌, IfErr, Some, None, Option, Result, ◌==◌}
+use Rattle.std.specs.List.{find}
+use Rattle.std.specs.Option.{option_map}
+use Rattle.std.specs.Result.{result_ok}
+use Rattle.signature.specs.declared.codes.Row.{Row}
+use Rattle.signature.specs.declared.codes.UnknownCode.{UnknownCode}
 use Rattle.signature.specs.declared.codes.Code.{Code}
 use Rattle.signature.specs.declared.codes.Code.TheVariants.{Byte, Boolean, Int16, Uint16, Int32, Uint32, Int64, Uint64, Double, UnixFd, String, ObjectPath, Signature, Array, Structure, DictEntry, Variant}
 
@@ -75,14 +80,14 @@ amongst (c ∷ cs) b = cond (letter_of c == b) (Some c) (amongst cs b)
 unfoldable pub code_of : ℕ → Option Code
 code_of b = amongst every_code b
 
--- a row of a table: a letter, its code, and the alignment of the code's values
-abbrev pub Row : Type 0
-Row = ℕ × Code × ℕ
+-- what a letter converts to: its code, or, where it has none, an error that holds the letter
+abbrev pub Coded : ℕ → Result Code UnknownCode → Type 0
+Coded b r = (result_ok r ≡ code_of b) × IfErr r (λ e. e.0 ≡ b)
 
+-- the row of a code
 abbrev pub row_of : Code → Row
-row_of c = (letter_of c, c, align_of c)
+row_of c = record { letter = letter_of c; code = c; alignment = align_of c }
 
 -- what a table has at a letter
 abbrev pub lookup : ℕ → List Row → Option Code
-lookup b [] = None
-lookup b (r ∷ rs) = cond (r.0 == b) (Some r.1) (lookup b rs)
+lookup b rs = option_map (λ r. r.code) (find (λ r. r.letter == b) rs)

@@ -1,6 +1,9 @@
 // The seventeen type codes, each with its letter and the alignment of its values: one table for readers and writers.
 ghost use Rattle.std.specs.Prelude.{◌≡◌, ◌<◌, ◌≤◌};
-ghost use Rattle.signature.specs.Codes.{align_of, basic, code_of, lookup};
+ghost use Rattle.signature.specs.Codes.{Coded, align_of, basic, lookup};
+
+use std::error::Error;
+use std::fmt;
 
 #[derive(Clone, Copy, Debug)]
 pub enum Code {
@@ -23,53 +26,75 @@ pub enum Code {
     Variant,
 }
 
-// Each letter, its code, and the alignment of the code's values; by the order of the codes, so that a code's number is its row's.
-const CODES: [(u8, Code, usize); 17] = [
-    (b'y', Code::Byte, 1),
-    (b'b', Code::Boolean, 4),
-    (b'n', Code::Int16, 2),
-    (b'q', Code::Uint16, 2),
-    (b'i', Code::Int32, 4),
-    (b'u', Code::Uint32, 4),
-    (b'x', Code::Int64, 8),
-    (b't', Code::Uint64, 8),
-    (b'd', Code::Double, 8),
-    (b'h', Code::UnixFd, 4),
-    (b's', Code::String, 4),
-    (b'o', Code::ObjectPath, 4),
-    (b'g', Code::Signature, 1),
-    (b'a', Code::Array, 4),
-    (b'(', Code::Structure, 8),
-    (b'{', Code::DictEntry, 8),
-    (b'v', Code::Variant, 1),
+// A letter that is no type code.
+#[derive(Clone, Copy, Debug, PartialEq, Eq)]
+pub struct UnknownCode(pub u8);
+
+// A letter, its code, and the boundary on which the code's values begin.
+struct Row {
+    letter: u8,
+    code: Code,
+    alignment: usize,
+}
+
+// By the order of the codes, so that a code's number is its row's.
+#[rattlefmt::skip]
+const CODES: [Row; 17] = [
+    Row { letter: b'y', code: Code::Byte, alignment: 1 },
+    Row { letter: b'b', code: Code::Boolean, alignment: 4 },
+    Row { letter: b'n', code: Code::Int16, alignment: 2 },
+    Row { letter: b'q', code: Code::Uint16, alignment: 2 },
+    Row { letter: b'i', code: Code::Int32, alignment: 4 },
+    Row { letter: b'u', code: Code::Uint32, alignment: 4 },
+    Row { letter: b'x', code: Code::Int64, alignment: 8 },
+    Row { letter: b't', code: Code::Uint64, alignment: 8 },
+    Row { letter: b'd', code: Code::Double, alignment: 8 },
+    Row { letter: b'h', code: Code::UnixFd, alignment: 4 },
+    Row { letter: b's', code: Code::String, alignment: 4 },
+    Row { letter: b'o', code: Code::ObjectPath, alignment: 4 },
+    Row { letter: b'g', code: Code::Signature, alignment: 1 },
+    Row { letter: b'a', code: Code::Array, alignment: 4 },
+    Row { letter: b'(', code: Code::Structure, alignment: 8 },
+    Row { letter: b'{', code: Code::DictEntry, alignment: 8 },
+    Row { letter: b'v', code: Code::Variant, alignment: 1 },
 ];
 
 // The table's first code with that letter.
-fn find(table: &[(u8, Code, usize)], letter: u8) -> Option<Code>
+fn find(table: &[Row], letter: u8) -> Option<Code>
     ensures { result ≡ lookup letter table.now }
 {
-    for (key, code, _) in table {
-        if *key == letter {
-            return Some(*code);
-        }
-    }
-    None
+    table
+        .iter()
+        .find(|row| row.letter == letter)
+        .map(|row| row.code)
 }
 
-impl Code {
-    // The code of a letter of a signature.
-    pub fn from_letter(letter: u8) -> Option<Code>
-        ensures { result ≡ code_of letter }
-    {
-        find(&CODES, letter)
-    }
+// The code of a letter of a signature.
+impl TryFrom<u8> for Code {
+    type Error = UnknownCode;
 
+    ghost try_from_gives = { Coded };
+
+    fn try_from(letter: u8) -> Result<Self, UnknownCode> {
+        find(&CODES, letter).ok_or(UnknownCode(letter))
+    }
+}
+
+impl fmt::Display for UnknownCode {
+    fn fmt<W: fmt::Write>(&self, f: &mut fmt::Formatter<W>) -> fmt::Result {
+        write!(f, "no type has the letter {}", self.0)
+    }
+}
+
+impl Error for UnknownCode {}
+
+impl Code {
     // The boundary on which a value of this code begins.
     pub fn alignment(self) -> usize
         ensures value { result ≡ align_of self }
         ensures small { (0 < result) × (result ≤ 8) }
     {
-        CODES[self as usize].2
+        CODES[self as usize].alignment
     }
 
     // Whether the letter alone is the whole type, and the type no container.

@@ -11,6 +11,7 @@ pub struct Levels {
 
 impl Levels {
     // Nothing is nested yet.
+    #[tactic(auto, unfolding(crate::specs::Depth::full))]
     pub fn full() -> Levels
         ensures { result ≡ full }
     {
@@ -25,13 +26,10 @@ impl Levels {
     pub fn in_array(self) -> Option<Levels>
         ensures { result ≡ in_array self }
     {
-        if self.all == 0 || self.arrays == 0 {
-            return None;
-        }
         Some(Levels {
-            arrays: self.arrays - 1,
-            structures: self.structures,
-            all: self.all - 1,
+            arrays: self.arrays.checked_sub(1)?,
+            all: self.all.checked_sub(1)?,
+            ..self
         })
     }
 
@@ -39,13 +37,10 @@ impl Levels {
     pub fn in_structure(self) -> Option<Levels>
         ensures { result ≡ in_structure self }
     {
-        if self.all == 0 || self.structures == 0 {
-            return None;
-        }
         Some(Levels {
-            arrays: self.arrays,
-            structures: self.structures - 1,
-            all: self.all - 1,
+            structures: self.structures.checked_sub(1)?,
+            all: self.all.checked_sub(1)?,
+            ..self
         })
     }
 
@@ -53,13 +48,9 @@ impl Levels {
     pub fn in_variant(self) -> Option<Levels>
         ensures { result ≡ in_variant self }
     {
-        if self.all == 0 {
-            return None;
-        }
         Some(Levels {
-            arrays: self.arrays,
-            structures: self.structures,
-            all: self.all - 1,
+            all: self.all.checked_sub(1)?,
+            ..self
         })
     }
 }

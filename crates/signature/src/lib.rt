@@ -1,7 +1,8 @@
 // Signatures: whether bytes are one, and where their first single complete type ends.
 #![tactic(auto)]
 
-ghost use Rattle.std.specs.Prelude.{◌≡◌, false, slice_index};
+ghost use Rattle.std.specs.Prelude.{◌≡◌, ◌<◌, IfSome, false, length, slice_index};
+ghost use Rattle.signature.specs.Codes.{code_of};
 ghost use Rattle.signature.specs.Signatures.{Inside, first_end, type_end, fields_end, entry_end, valid_signature, single};
 
 pub mod codes;
@@ -12,27 +13,23 @@ use levels::Levels;
 
 const MAX_LEN: usize = 255;
 
-// The letter at `at`; 0, which is no type code, past the end.
-pub fn letter_at(signature: &[u8], at: usize) -> u8
-    ensures { result ≡ slice_index signature.now at }
+// The type code at `at`; none past the end.
+pub fn code_at(signature: &[u8], at: usize) -> Option<Code>
+    ensures value { result ≡ code_of (slice_index signature.now at) }
+    ensures inside { IfSome result (λ _. at < length signature.now) }
 {
-    if at < signature.len() {
-        signature[at]
-    } else {
-        0
-    }
+    Code::try_from(*signature.get(at)?).ok()
 }
 
 // Where the single complete type at `at` ends. A dictionary entry stands only in an array.
+// The place and the levels differ at each call: a struct of them and the signature would be made anew each time.
 #[cycle(entry_end_fields_end_type_end)]
+#[tactic(auto, using(crate::proofs::Types::walk))]
 pub fn type_end(signature: &[u8], at: usize, in_array: bool, levels: Levels) -> Option<usize>
     ensures value { result ≡ type_end signature.now in_array levels at }
     ensures inside { Inside signature.now at result }
 {
-    if at >= signature.len() {
-        return None;
-    }
-    match Code::from_letter(signature[at])? {
+    match code_at(signature, at)? {
         Code::Array => type_end(signature, at + 1, true, levels.in_array()?),
         Code::Structure => fields_end(signature, at + 1, levels.in_structure()?),
         Code::DictEntry => {
@@ -51,8 +48,9 @@ fn fields_end(signature: &[u8], at: usize, levels: Levels) -> Option<usize>
     ensures value { result ≡ fields_end (type_end signature.now false levels) signature.now at }
     ensures inside { Inside signature.now at result }
 {
+    // A type's length moves the place: no iterator knows it.
     let mut i = type_end(signature, at, false, levels)?;
-    while letter_at(signature, i) != b')' {
+    while signature.get(i) != Some(&b')') {
         i = type_end(signature, i, false, levels)?;
     }
     Some(i + 1)
@@ -64,16 +62,11 @@ fn entry_end(signature: &[u8], at: usize, levels: Levels) -> Option<usize>
     ensures value { result ≡ entry_end (type_end signature.now false levels) signature.now at }
     ensures inside { Inside signature.now at result }
 {
-    let key = Code::from_letter(letter_at(signature, at))?;
-    if !key.is_basic() {
+    if !code_at(signature, at)?.is_basic() {
         return None;
     }
     let end = type_end(signature, at + 1, false, levels)?;
-    if letter_at(signature, end) == b'}' {
-        Some(end + 1)
-    } else {
-        None
-    }
+    (signature.get(end) == Some(&b'}')).then_some(end + 1)
 }
 
 // Where the first single complete type ends.
@@ -91,6 +84,7 @@ pub fn is_signature(signature: &[u8]) -> bool
     if signature.len() > MAX_LEN {
         return false;
     }
+    // A type's length moves the place: no iterator knows it.
     let mut at = 0;
     while at < signature.len() {
         let Some(end) = type_end(signature, at, false, Levels::full()) else {
@@ -102,11 +96,9 @@ pub fn is_signature(signature: &[u8]) -> bool
 }
 
 // Whether these bytes are exactly one single complete type, of at most 255 bytes.
+#[tactic(auto, using(crate::proofs::Types::singles))]
 pub fn is_single(signature: &[u8]) -> bool
     ensures { result ≡ single signature.now }
 {
-    match first_end(signature) {
-        Some(end) => signature.len() <= MAX_LEN && end == signature.len(),
-        None => false,
-    }
+    signature.len() <= MAX_LEN && first_end(signature) == Some(signature.len())
 }

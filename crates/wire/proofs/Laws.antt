@@ -6,7 +6,7 @@ use Rattle.signature.specs.Signatures.{valid_signature}
 use Rattle.wire.specs.declared.reading.ByteOrder.{ByteOrder}
 use Rattle.wire.specs.declared.reading.Fault.{Fault}
 use Rattle.wire.specs.declared.reading.StringLike.{StringLike}
-use Rattle.wire.specs.declared.reading.StringLike.TheVariants.{OfString, OfPath, OfSignature}
+use Rattle.wire.specs.declared.reading.StringLike.TheVariants.{String, ObjectPath, Signature}
 use Rattle.wire.specs.Reading.{and_then, byte_at, ended_at, fault_for, path_at, signature_at, string_at, text_at, u32_at, valid_for}
 use Rattle.wire.specs.Text.{valid_text}
 
@@ -25,12 +25,12 @@ valid kind msg (Err f) t e = let z : ◌≡◌ {A = ℕ} 0 1 = cc in absurd (ome
 module _ (order : ByteOrder) (msg : List ℕ) (at : ℕ) (t : List ℕ × ℕ) where
   pub string-valid : string_at order msg at ≡ Ok t → valid_text t.0 ≡ true
   unfolding string_at
-  string-valid e = valid OfString msg (u32_at order msg at) t e
+  string-valid e = valid String msg (u32_at order msg at) t e
 
   pub path-valid : path_at order msg at ≡ Ok t → valid_path t.0 ≡ true
   unfolding path_at
-  path-valid e = valid OfPath msg (u32_at order msg at) t e
+  path-valid e = valid ObjectPath msg (u32_at order msg at) t e
 
 pub signature-valid : (msg : List ℕ) (at : ℕ) (t : List ℕ × ℕ) → signature_at msg at ≡ Ok t → valid_signature t.0 ≡ true
 unfolding signature_at
-signature-valid msg at t e = valid OfSignature msg (byte_at msg at) t e
+signature-valid msg at t e = valid Signature msg (byte_at msg at) t e

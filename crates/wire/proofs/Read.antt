@@ -1,10 +1,10 @@
 -- What a read answers, step by step.
-use Rattle.std.proofs.Common.{◌≡◌, ℕ, ◌+◌, ◌-◌, ◌≤◌, Bool, true, false, cond, leb, List, length, take, drop, Ok, Err, Result, sym, ap, ◌∙◌, ⊎_elim, arith}
+use Rattle.std.proofs.Common.{◌≡◌, ℕ, ◌+◌, ◌-◌, Bool, true, false, cond, leb, List, length, take, drop, Ok, Err, Result, sym, ap, ◌∙◌, ⊎_elim, arith}
 use Rattle.std.proofs.lemmas.Bool.{cases_Bool, cond-false, cond-true}
 use Rattle.names.specs.Names.{all}
 use Rattle.wire.specs.declared.reading.Fault.{Fault}
 use Rattle.wire.specs.declared.reading.Fault.TheVariants.{Short, Padding}
-use Rattle.wire.specs.Reading.{Grown, Onward, Past, align_at, and_then, bytes_at, gap, part}
+use Rattle.wire.specs.Reading.{align_at, and_then, bytes_at, gap, part}
 use Rattle.wire.specs.Text.{zero?}
 
 pub goes : {A B : Type 0} {r : Result A Fault} {x : A} (f : A → Result B Fault) → Ok x ≡ r → and_then r f ≡ f x
@@ -12,6 +12,8 @@ goes f e = ap (λ r. and_then r f) (sym e)
 
 pub stops : {A B : Type 0} {r : Result A Fault} {e : Fault} (f : A → Result B Fault) → Err e ≡ r → and_then r f ≡ Err e
 stops f e = ap (λ r. and_then r f) (sym e)
+
+pub ruleset steps = (goes, stops)
 
 pub bytes-is : (n : ℕ) (msg : List ℕ) (at p : ℕ) → Ok p ≡ bytes_at n msg at → p ≡ at + n
 bytes-is n msg at p e =
@@ -40,10 +42,4 @@ module _ (n : ℕ) (msg : List ℕ) (at g : ℕ) (is : g ≡ gap n at) where
   pub align-bad : (p : ℕ) → Ok p ≡ bytes_at g msg at → false ≡ all zero? (take (p - at) (drop at msg)) → Err (Padding at) ≡ align_at n msg at
   align-bad p e z = sym (there p false e z)
 
-pub grown : (n : ℕ) (msg : List ℕ) (at start : ℕ) (r : Result ℕ Fault) → r ≡ bytes_at n msg start → at ≤ start → Onward msg start r → Grown msg at n r
-grown n msg at start (Ok p) e h w = (omega (arith, bytes-is n msg start p e), w.1)
-grown n msg at start (Err f) e h w = tt
-
-pub past-on : {A : Type 0} (msg : List ℕ) (at start n m : ℕ) (r : Result (A × ℕ) Fault) → at + m ≤ start + n → Past msg start n r → Past msg at m r
-past-on msg at start n m (Ok x) h w = (omega (arith, w.0), w.1)
-past-on msg at start n m (Err f) h w = tt
+pub ruleset aligns = (align-short, align-zero, align-bad)

@@ -1,16 +1,26 @@
 -- Values in a message: the D-Bus Specification, sections "Byte order and alignment" and "Marshalling basic types".
 -- Each is read at a place, and gives the value and the place after it, or a fault with its place.
-use Rattle.std.specs.Prelude.{ℕ, ◌+◌, ◌-◌, ◌*◌, ◌%◌, ◌≤◌, Bool, cond, List, length, take, drop, IfOk, Ok, Err, Result, ◌==◌, nat_le, nat_lt, slice_index}
+use Rattle.std.specs.Prelude.{◌≡◌, ℕ, ◌+◌, ◌-◌, ◌*◌, ◌%◌, ◌≤◌, Bool, cond, List, length, take, drop, IfErr, IfOk, Some, None, Ok, Err, Option, Result, ◌==◌, nat_le, nat_lt, slice_index}
 use Rattle.std.specs.Borrow.{Bor}
+use Rattle.std.specs.Result.{result_ok}
 use Rattle.names.specs.Names.{all, valid_path}
 use Rattle.wire.specs.declared.reading.ByteOrder.{ByteOrder}
 use Rattle.wire.specs.declared.reading.ByteOrder.TheVariants.{Little, Big}
 use Rattle.wire.specs.declared.reading.Fault.{Fault}
 use Rattle.wire.specs.declared.reading.Fault.TheVariants.{Short, Padding, Boolean, Unterminated, Text, Path, Signature}
 use Rattle.wire.specs.declared.reading.StringLike.{StringLike}
-use Rattle.wire.specs.declared.reading.StringLike.TheVariants.{OfString, OfPath, OfSignature}
+use Rattle.wire.specs.declared.reading.UnknownByteOrder.{UnknownByteOrder}
+use Rattle.wire.specs.declared.reading.StringLike.TheVariants as kind
 use Rattle.signature.specs.Signatures.{valid_signature}
 use Rattle.wire.specs.Text.{valid_text, zero?}
+
+-- "ASCII 'l' for little-endian or ASCII 'B' for big-endian"
+abbrev pub order_of : ℕ → Option ByteOrder
+order_of b = cond (b == 108) (Some Little) (cond (b == 66) (Some Big) None)
+
+-- what a byte converts to: the order that it names, or, where it names none, an error that holds the byte
+abbrev pub Ordered : ℕ → Result ByteOrder UnknownByteOrder → Type 0
+Ordered b r = (result_ok r ≡ order_of b) × IfErr r (λ e. e.0 ≡ b)
 
 abbrev pub and_then : {A B : Type 0} → Result A Fault → (A → Result B Fault) → Result B Fault
 and_then (Ok x) f = f x
@@ -73,29 +83,32 @@ ended_at n msg at =
 
 -- column "Validity constraints"
 abbrev pub valid_for : StringLike → List ℕ → Bool
-valid_for OfString bs = valid_text bs
-valid_for OfPath bs = valid_path bs
-valid_for OfSignature bs = valid_signature bs
+valid_for kind.String bs = valid_text bs
+valid_for kind.ObjectPath bs = valid_path bs
+valid_for kind.Signature bs = valid_signature bs
 
 abbrev pub fault_for : StringLike → ℕ → Fault
-fault_for OfString at = Text at
-fault_for OfPath at = Path at
-fault_for OfSignature at = Signature at
+fault_for kind.String at = Text at
+fault_for kind.ObjectPath at = Path at
+fault_for kind.Signature at = Signature at
 
 -- the length and where the text begins are known
 unfoldable pub text_at : StringLike → List ℕ → ℕ × ℕ → Result (List ℕ × ℕ) Fault
-text_at kind msg x = and_then (ended_at x.0 msg x.1) (λ t. cond (valid_for kind t.0) (Ok t) (Err (fault_for kind x.1)))
+text_at like msg x = and_then (ended_at x.0 msg x.1) (λ t. cond (valid_for like t.0) (Ok t) (Err (fault_for like x.1)))
 
 -- STRING, OBJECT_PATH: "n is encoded in 4 bytes"
+abbrev pub counted_at : StringLike → ByteOrder → List ℕ → ℕ → Result (List ℕ × ℕ) Fault
+counted_at like order msg at = and_then (u32_at order msg at) (text_at like msg)
+
 unfoldable pub string_at : ByteOrder → List ℕ → ℕ → Result (List ℕ × ℕ) Fault
-string_at order msg at = and_then (u32_at order msg at) (text_at OfString msg)
+string_at order msg at = counted_at kind.String order msg at
 
 unfoldable pub path_at : ByteOrder → List ℕ → ℕ → Result (List ℕ × ℕ) Fault
-path_at order msg at = and_then (u32_at order msg at) (text_at OfPath msg)
+path_at order msg at = counted_at kind.ObjectPath order msg at
 
 -- SIGNATURE: "n is encoded as a single byte"
 unfoldable pub signature_at : List ℕ → ℕ → Result (List ℕ × ℕ) Fault
-signature_at msg at = and_then (byte_at msg at) (text_at OfSignature msg)
+signature_at msg at = and_then (byte_at msg at) (text_at kind.Signature msg)
 
 -- what a result that borrows from the message says
 abbrev pub seen : Result (Bor (List ℕ) × ℕ) Fault → Result (List ℕ × ℕ) Fault

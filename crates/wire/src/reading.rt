@@ -1,11 +1,14 @@
 // Reading values from a lent message. A place is an offset from the message's first byte.
+// Each reader says where its end lies: a caller that goes on from there needs the bound, and no type holds it.
 ghost use Rattle.std.specs.Prelude.{◌≡◌, ◌+◌, ◌<◌, ◌≤◌, length};
 ghost use Rattle.signature.specs.Codes.{align_of};
-ghost use Rattle.wire.specs.Reading.{Onward, Grown, Past, align_at, bool_at, byte_at, bytes_at, ended_at, fault_for, fixed_at, gap, path_at, seen, signature_at, string_at, text_at, u32_at, valid_for, word_of};
+ghost use Rattle.wire.specs.Reading.{Onward, Ordered, Grown, Past, align_at, bool_at, byte_at, bytes_at, counted_at, ended_at, fault_for, fixed_at, gap, path_at, seen, signature_at, string_at, text_at, u32_at, valid_for, word_of};
 
 use crate::text::{all_zero, is_path, is_text};
 use signature::codes::Code;
 use signature::is_signature;
+use std::error::Error;
+use std::fmt;
 
 #[derive(Clone, Copy, Debug, PartialEq, Eq)]
 pub enum ByteOrder {
@@ -13,12 +16,17 @@ pub enum ByteOrder {
     Big,
 }
 
-// The types that are marshalled as a length and a text.
+// A byte that names no order.
+#[derive(Clone, Copy, Debug, PartialEq, Eq)]
+pub struct UnknownByteOrder(pub u8);
+
+// The types that are marshalled as a length and a text: each has a test and a fault of its own.
+// An enum, and not two functions passed along: the contracts name the type.
 #[derive(Clone, Copy)]
 enum StringLike {
-    OfString,
-    OfPath,
-    OfSignature,
+    String,
+    ObjectPath,
+    Signature,
 }
 
 // Why a value cannot be read, and where.
@@ -42,12 +50,36 @@ pub enum Fault {
     Value(usize),
 }
 
-// How far the next boundary is.
-fn gap_to(alignment: usize, at: usize) -> usize
-    requires { 0 < alignment }
-    ensures value { result ≡ gap alignment at }
-    ensures below { result < alignment }
+// The order that a message's first byte names.
+impl TryFrom<u8> for ByteOrder {
+    type Error = UnknownByteOrder;
+
+    ghost try_from_gives = { Ordered };
+
+    fn try_from(byte: u8) -> Result<Self, UnknownByteOrder> {
+        match byte {
+            b'l' => Ok(ByteOrder::Little),
+            b'B' => Ok(ByteOrder::Big),
+            _ => Err(UnknownByteOrder(byte)),
+        }
+    }
+}
+
+impl fmt::Display for UnknownByteOrder {
+    fn fmt<W: fmt::Write>(&self, f: &mut fmt::Formatter<W>) -> fmt::Result {
+        write!(f, "no byte order has the letter {}", self.0)
+    }
+}
+
+impl Error for UnknownByteOrder {}
+
+// How far the next boundary for values of this code is.
+#[tactic(auto, unfolding(crate::specs::Reading::gap))]
+pub fn gap_to(code: Code, at: usize) -> usize
+    ensures value { result ≡ gap (align_of code) at }
+    ensures below { result < align_of code }
 {
+    let alignment = code.alignment();
     (alignment - at % alignment) % alignment
 }
 
@@ -64,11 +96,12 @@ fn bytes_end(message: &[u8], at: usize, n: usize) -> Result<usize, Fault>
 }
 
 // Past the padding before a value of this code.
+#[tactic(auto, using(crate::proofs::Read::aligns))]
 pub fn align(message: &[u8], at: usize, code: Code) -> Result<usize, Fault>
     ensures value { result ≡ align_at (align_of code) message.now at }
     ensures within { Onward message.now at result }
 {
-    let next = bytes_end(message, at, gap_to(code.alignment(), at))?;
+    let next = bytes_end(message, at, gap_to(code, at))?;
     if all_zero(&message[at..next]) {
         Ok(next)
     } else {
@@ -77,6 +110,7 @@ pub fn align(message: &[u8], at: usize, code: Code) -> Result<usize, Fault>
 }
 
 // Past a value of a fixed length, which is its alignment.
+#[tactic(auto, using(crate::proofs::Read::steps), unfolding(crate::specs::Reading::fixed_at))]
 pub fn fixed_end(message: &[u8], at: usize, code: Code) -> Result<usize, Fault>
     ensures value { result ≡ fixed_at (align_of code) message.now at }
     ensures within { Grown message.now at (align_of code) result }
@@ -90,49 +124,8 @@ pub fn read_byte(message: &[u8], at: usize) -> Result<(u8, usize), Fault>
     ensures value { result ≡ byte_at message.now at }
     ensures within { Past message.now at 1 result }
 {
-    if at < message.len() {
-        Ok((message[at], at + 1))
-    } else {
-        Err(Fault::Short(at))
-    }
-}
-
-// The number that four bytes are.
-fn word(message: &[u8], order: ByteOrder, at: usize) -> u32
-    requires { at + 4 ≤ length message.now }
-    ensures { result ≡ word_of order message.now at }
-{
-    let bytes = [
-        message[at],
-        message[at + 1],
-        message[at + 2],
-        message[at + 3],
-    ];
-    match order {
-        ByteOrder::Little => u32::from_le_bytes(bytes),
-        ByteOrder::Big => u32::from_be_bytes(bytes),
-    }
-}
-
-// A number of 32 bits.
-pub fn read_u32(message: &[u8], order: ByteOrder, at: usize) -> Result<(u32, usize), Fault>
-    ensures value { result ≡ u32_at order message.now at }
-    ensures within { Past message.now at 4 result }
-{
-    let next = fixed_end(message, at, Code::Uint32)?;
-    Ok((word(message, order, next - 4), next))
-}
-
-// A boolean, 0 or 1 in 32 bits.
-pub fn read_bool(message: &[u8], order: ByteOrder, at: usize) -> Result<(bool, usize), Fault>
-    ensures value { result ≡ bool_at order message.now at }
-    ensures within { Past message.now at 4 result }
-{
-    let (n, next) = read_u32(message, order, at)?;
-    if n > 1 {
-        return Err(Fault::Boolean(next - 4));
-    }
-    Ok((n == 1, next))
+    let byte = message.get(at).ok_or(Fault::Short(at))?;
+    Ok((*byte, at + 1))
 }
 
 impl StringLike {
@@ -140,9 +133,9 @@ impl StringLike {
         ensures { result ≡ valid_for self text.now }
     {
         match self {
-            StringLike::OfString => is_text(text),
-            StringLike::OfPath => is_path(text),
-            StringLike::OfSignature => is_signature(text),
+            StringLike::String => is_text(text),
+            StringLike::ObjectPath => is_path(text),
+            StringLike::Signature => is_signature(text),
         }
     }
 
@@ -150,14 +143,15 @@ impl StringLike {
         ensures { result ≡ fault_for self at }
     {
         match self {
-            StringLike::OfString => Fault::Text(at),
-            StringLike::OfPath => Fault::Path(at),
-            StringLike::OfSignature => Fault::Signature(at),
+            StringLike::String => Fault::Text(at),
+            StringLike::ObjectPath => Fault::Path(at),
+            StringLike::Signature => Fault::Signature(at),
         }
     }
 }
 
 // The `len` bytes at `at`, which a zero follows.
+#[tactic(auto, using(crate::proofs::Read::steps), unfolding(crate::specs::Reading::ended_at))]
 fn read_ended(message: &[u8], at: usize, len: usize) -> Result<(&[u8], usize), Fault>
     ensures value { seen result ≡ ended_at len message.now at }
     ensures within { Past message.now at 1 result }
@@ -171,6 +165,7 @@ fn read_ended(message: &[u8], at: usize, len: usize) -> Result<(&[u8], usize), F
 }
 
 // The same, with what the type asks of its text.
+#[tactic(auto, using(crate::proofs::Read::steps), unfolding(crate::specs::Reading::text_at))]
 fn read_text(
     message: &[u8],
     kind: StringLike,
@@ -187,29 +182,90 @@ fn read_text(
     Ok((text, next))
 }
 
-// A string of the message.
-pub fn read_string(message: &[u8], order: ByteOrder, at: usize) -> Result<(&[u8], usize), Fault>
-    ensures value { seen result ≡ string_at order message.now at }
-    ensures within { Past message.now at 5 result }
-{
-    let (len, start) = read_u32(message, order, at)?;
-    read_text(message, StringLike::OfString, start, len as usize)
-}
-
-// An object path of the message.
-pub fn read_path(message: &[u8], order: ByteOrder, at: usize) -> Result<(&[u8], usize), Fault>
-    ensures value { seen result ≡ path_at order message.now at }
-    ensures within { Past message.now at 5 result }
-{
-    let (len, start) = read_u32(message, order, at)?;
-    read_text(message, StringLike::OfPath, start, len as usize)
-}
-
 // A signature of the message.
+#[tactic(auto, using(crate::proofs::Read::steps), unfolding(crate::specs::Reading::signature_at))]
 pub fn read_signature(message: &[u8], at: usize) -> Result<(&[u8], usize), Fault>
     ensures value { seen result ≡ signature_at message.now at }
     ensures within { Past message.now at 2 result }
 {
     let (len, start) = read_byte(message, at)?;
-    read_text(message, StringLike::OfSignature, start, len as usize)
+    read_text(message, StringLike::Signature, start, len as usize)
+}
+
+// A message, and the order of the bytes in its numbers.
+#[derive(Clone, Copy)]
+pub struct Reader<'m> {
+    pub message: &'m [u8],
+    pub order: ByteOrder,
+}
+
+impl<'m> Reader<'m> {
+    // The number that four bytes are.
+    fn word(self, at: usize) -> u32
+        requires { at + 4 ≤ length self.message.now }
+        ensures { result ≡ word_of self.entry.order self.entry.message.now at }
+    {
+        let message = self.message;
+        let bytes = [
+            message[at],
+            message[at + 1],
+            message[at + 2],
+            message[at + 3],
+        ];
+        match self.order {
+            ByteOrder::Little => u32::from_le_bytes(bytes),
+            ByteOrder::Big => u32::from_be_bytes(bytes),
+        }
+    }
+
+    // A number of 32 bits.
+    #[tactic(auto, using(crate::proofs::Read::steps), unfolding(crate::specs::Reading::u32_at, signature::specs::Codes::align_of))]
+    pub fn read_u32(self, at: usize) -> Result<(u32, usize), Fault>
+        ensures value { result ≡ u32_at self.entry.order self.entry.message.now at }
+        ensures within { Past self.entry.message.now at 4 result }
+    {
+        let next = fixed_end(self.message, at, Code::Uint32)?;
+        Ok((self.word(next - 4), next))
+    }
+
+    // A boolean, 0 or 1 in 32 bits.
+    #[tactic(auto, using(crate::proofs::Read::steps), unfolding(crate::specs::Reading::bool_at))]
+    pub fn read_bool(self, at: usize) -> Result<(bool, usize), Fault>
+        ensures value { result ≡ bool_at self.entry.order self.entry.message.now at }
+        ensures within { Past self.entry.message.now at 4 result }
+    {
+        let (n, next) = self.read_u32(at)?;
+        if n > 1 {
+            return Err(Fault::Boolean(next - 4));
+        }
+        Ok((n == 1, next))
+    }
+
+    // A text after its length in 32 bits.
+    #[tactic(auto, using(crate::proofs::Read::steps))]
+    fn read_counted(self, kind: StringLike, at: usize) -> Result<(&'m [u8], usize), Fault>
+        ensures value { seen result ≡ counted_at kind self.entry.order self.entry.message.now at }
+        ensures within { Past self.entry.message.now at 5 result }
+    {
+        let (len, start) = self.read_u32(at)?;
+        read_text(self.message, kind, start, len as usize)
+    }
+
+    // A string of the message.
+    #[tactic(auto, unfolding(crate::specs::Reading::string_at))]
+    pub fn read_string(self, at: usize) -> Result<(&'m [u8], usize), Fault>
+        ensures value { seen result ≡ string_at self.entry.order self.entry.message.now at }
+        ensures within { Past self.entry.message.now at 5 result }
+    {
+        self.read_counted(StringLike::String, at)
+    }
+
+    // An object path of the message.
+    #[tactic(auto, unfolding(crate::specs::Reading::path_at))]
+    pub fn read_path(self, at: usize) -> Result<(&'m [u8], usize), Fault>
+        ensures value { seen result ≡ path_at self.entry.order self.entry.message.now at }
+        ensures within { Past self.entry.message.now at 5 result }
+    {
+        self.read_counted(StringLike::ObjectPath, at)
+    }
 }

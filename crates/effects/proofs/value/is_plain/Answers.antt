@@ -1,15 +1,9 @@
-use Rattle.std.proofs.Common.{sym}
-use Rattle.effects.proofs.Plain.{left-none, left-more, left-bad, left-all}
+use Rattle.std.proofs.Common.{rules, tests, ◌∙◌, sym}
+use Rattle.std.proofs.lemmas.Iterator.{YieldsList-from_slice}
+use Rattle.std.proofs.lemmas.Iterator.Search.{all_from_yields_List}
+use Rattle.effects.specs.Texts.{printable}
+use Rattle.effects.proofs.Alls.{all-list}
 use Rattle.effects.proofs.value.is_plain.Goals as goal
 
-pub loop-b-init : goal.loop-b-init
-loop-b-init c = left-none c.args.bytes.now
-
-pub loop-b-preserved : goal.loop-b-preserved
-loop-b-preserved c = left-more c.args.bytes.now c.loop-b.b-index c.loop-b-test.true c.loop-b.invariant (sym c.if-not-is_printable.ensures)
-
-pub returns-then-not-is_printable : goal.returns-then-not-is_printable
-returns-then-not-is_printable c = left-bad c.args.bytes.now c.loop-b.b-index c.loop-b-test.true c.loop-b.invariant (sym c.if-not-is_printable.ensures)
-
 pub returns : goal.returns
-returns c = left-all c.args.bytes.now c.loop-b.b-index c.loop-b-test.false c.loop-b.invariant
+returns c = all_from_yields_List printable _ _ c.all.result c.all.ensures.ran (YieldsList-from_slice c.args.bytes.now cc) (λ x b q k. search (rules, tests)) ∙ sym (all-list printable c.args.bytes.now)

@@ -1,9 +1,8 @@
-use Rattle.std.proofs.Common.{sym}
+use Rattle.std.proofs.Common.{◌≡◌, codes, rules, arith}
+use Rattle.std.proofs.lemmas.Slice.Eq.{text_from_reads}
 use Rattle.effects.proofs.delay_interface.DelayInterface.call.Goals as goal
 
-pub returns-then-is_hot : goal.returns-then-is_hot
-returns-then-is_hot c =
-    let bypass = sym c.if-same.ensures in
-    let check = sym c.if-same-2.ensures in
-    let hot = sym c.if-is_hot.ensures in
-    rw (bypass, check, hot)
+pub returns-in-Bypass : goal.returns-in-Bypass
+returns-in-Bypass c =
+    let e : c.args.name.now ≡ codes "Bypass" = text_from_reads _ _ (omega arith) (search rules) in
+    rw e (search rules)

@@ -1,6 +1,23 @@
-use Rattle.std.proofs.Common.{rules}
-use Rattle.effects.specs.Fits.{text-fits}
+use Rattle.std.proofs.Common.{◌≡◌, codes, rules, arith}
+use Rattle.std.proofs.lemmas.Slice.Eq.{text_from_reads}
 use Rattle.effects.proofs.delay_interface.DelayInterface.set_mut.Goals as goal
 
-pub returns-then-same-3 : goal.returns-then-same-3
-returns-then-same-3 c = let short = text-fits c.in-Str.t in search rules
+pub returns-in-Bypassed-clause-answer : goal.returns-in-Bypassed-clause-answer
+returns-in-Bypassed-clause-answer c =
+    let e : c.args.name.now ≡ codes "Bypassed" = text_from_reads _ _ (omega arith) (search rules) in
+    rw e (search rules)
+
+pub returns-in-Feedback-clause-answer : goal.returns-in-Feedback-clause-answer
+returns-in-Feedback-clause-answer c =
+    let e : c.args.name.now ≡ codes "Feedback" = text_from_reads _ _ (omega arith) (search rules) in
+    rw e (search rules)
+
+pub returns-in-Feedback-clause-after : goal.returns-in-Feedback-clause-after
+returns-in-Feedback-clause-after c =
+    let e : c.args.name.now ≡ codes "Feedback" = text_from_reads _ _ (omega arith) (search rules) in
+    rw e (search rules)
+
+pub returns-in-Label-clause-after : goal.returns-in-Label-clause-after
+returns-in-Label-clause-after c =
+    let e : c.args.name.now ≡ codes "Label" = text_from_reads _ _ (omega arith) (search rules) in
+    rw e (search rules)

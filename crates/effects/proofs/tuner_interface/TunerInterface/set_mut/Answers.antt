@@ -1,0 +1,8 @@
+use Rattle.std.proofs.Common.{◌≡◌, codes, rules, arith}
+use Rattle.std.proofs.lemmas.Slice.Eq.{text_from_reads}
+use Rattle.effects.proofs.tuner_interface.TunerInterface.set_mut.Goals as goal
+
+pub returns-in-Cents-2-clause-answer : goal.returns-in-Cents-2-clause-answer
+returns-in-Cents-2-clause-answer c =
+    let e : c.args.name.now ≡ codes "Locked" = text_from_reads _ _ (omega arith) (search rules) in
+    rw e (search rules)
