@@ -92,14 +92,14 @@ closes was bytes is s e code (Err x) w p a =
     absurd (omega (arith, ends was bytes is s e code w a.by, a.by.fits, wrote-size was bytes s e _ a.by, p.by.1 (omega (arith, ends was bytes is s e code w a.by))))
 
 -- the places that the code counts out
-module _ (code : Code) (s a b before past : ℕ) (is_a : a ≡ align_of Array) (is_b : b ≡ align_of code) (is_before : before ≡ gap a s) (is_past : past ≡ gap b (s + before + 4)) where
+module _ (code : Code) (s before past : ℕ) (is_before : before ≡ gap (align_of Array) s) (is_past : past ≡ gap (align_of code) (s + before + 4)) where
   pub hole-at : s + before ≡ s + length (pad Array s)
-  hole-at = ap (λ n. s + n) (is_before ∙ ap (λ n. gap n s) is_a ∙ sym (length-pad Array s))
+  hole-at = ap (λ n. s + n) (is_before ∙ sym (length-pad Array s))
 
   pub contents-is : s + before + 4 + past ≡ contents_at code s
   contents-is =
       let e : s + before + 4 ≡ s + length (pad Array s) + 4 = omega (arith, hole-at) in
-      let f : past ≡ gap (align_of code) (s + length (pad Array s) + 4) = is_past ∙ ap (λ n. gap n (s + before + 4)) is_b ∙ ap (gap (align_of code)) e in
+      let f : past ≡ gap (align_of code) (s + length (pad Array s) + 4) = is_past ∙ ap (gap (align_of code)) e in
       omega (arith, contents-at code s)
 
 pub after-start : (code : Code) (s : ℕ) → s ≤ contents_at code s

@@ -7,13 +7,14 @@ ghost use Rattle.outbox.specs.Marshal.{◌▹◌, Bytes, Part, array, ended, le3
 ghost use Rattle.outbox.specs.Pours.{Closed, Patched, Poured};
 ghost use Rattle.outbox.specs.ReadBack.{EveryReadsBack, ReadsBack};
 ghost use Rattle.signature.specs.Signatures.{valid_signature};
-ghost use Rattle.wire.specs.Reading.{bool_at, gap, path_at, signature_at, string_at, u32_at};
+ghost use Rattle.wire.specs.Reading.{bool_at, path_at, signature_at, string_at, u32_at};
 ghost use Rattle.wire.specs.Text.{valid_text};
 ghost use Rattle.wire.specs.declared.reading.ByteOrder.TheVariants.{Little};
 ghost use Rattle.std.specs.Int.{w32};
 ghost use Rattle.std.proofs.Common.{of_z};
 
 use signature::codes::Code;
+use wire::reading::gap_to;
 
 // There is no room for what was to be written, or no message may have so much.
 #[derive(Clone, Copy, Debug, PartialEq, Eq)]
@@ -38,20 +39,11 @@ pub fn put_raw(bytes: &mut [u8], from: usize, more: &[u8]) -> Result<usize, Full
     }
 }
 
-// How far the next boundary is.
-fn gap_to(alignment: usize, at: usize) -> usize
-    requires { 0 < alignment }
-    ensures value { result ≡ gap alignment at }
-    ensures below { result < alignment }
-{
-    (alignment - at % alignment) % alignment
-}
-
 // Zeros up to the boundary of a type.
 pub fn put_pad(bytes: &mut [u8], from: usize, code: Code) -> Result<usize, Full>
     ensures { Poured bytes.old from bytes.new result (pad code) }
 {
-    let n = gap_to(code.alignment(), from);
+    let n = gap_to(code, from);
     put_raw(bytes, from, &ZEROS[0..n])
 }
 
@@ -172,8 +164,8 @@ pub fn close_array(bytes: &mut [u8], start: usize, element: Code, end: usize) ->
     if start > end || end > bytes.len().min(MAX_LEN) {
         return Err(Full);
     }
-    let hole = start + gap_to(Code::Array.alignment(), start);
-    let contents = hole + 4 + gap_to(element.alignment(), hole + 4);
+    let hole = start + gap_to(Code::Array, start);
+    let contents = hole + 4 + gap_to(element, hole + 4);
     if contents > end {
         return Err(Full);
     }

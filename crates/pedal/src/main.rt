@@ -19,7 +19,7 @@ struct Tally {
 }
 
 // One line of the plan: a path, and the word of a make or an interface's name. An empty line or a comment counts as none.
-fn plan_line(rt: &HostRuntime, number: u32, line: &str, tally: &mut Tally) -> anyhow::Result<()> {
+fn plan_line(rt: &HostRuntime, number: usize, line: &str, tally: &mut Tally) -> anyhow::Result<()> {
     let mut words = line.split_whitespace();
     let Some(path) = words.next() else {
         return Ok(());
@@ -50,10 +50,8 @@ fn run(rt: &HostRuntime) -> anyhow::Result<()> {
         placeable: 0,
         refused: 0,
     };
-    let mut number: u32 = 0;
-    for line in rt.lines(rt.alloc()) {
-        number = number.saturating_add(1);
-        plan_line(rt, number, line?.as_str(), &mut tally)?;
+    for (i, line) in rt.lines(rt.alloc()).enumerate() {
+        plan_line(rt, i.saturating_add(1), line?.as_str(), &mut tally)?;
     }
     let Tally { placeable, refused } = tally;
     println!(rt; "{placeable} can be placed by their names, {refused} cannot")?;

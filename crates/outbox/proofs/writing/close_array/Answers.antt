@@ -20,7 +20,7 @@ returns-then-start-end c =
 
 pub returns-then-contents-end : goal.returns-then-contents-end
 returns-then-contents-end c =
-    let at = contents-is c.args.element c.args.start _ _ _ _ c.alignment.ensures.value c.alignment-2.ensures.value c.gap_to.ensures.value c.gap_to-2.ensures.value in
+    let at = contents-is c.args.element c.args.start _ _ c.gap_to.ensures.value c.gap_to-2.ensures.value in
     let p : Closed {E = Full} c.args.bytes.now c.args.start c.args.element c.args.end c.args.bytes.now (Err (record {})) = record { by = (refl, λ h. absurd (omega (arith, at))) } in
     record { patched = p; closes = λ was w a. closes _ _ _ _ _ _ _ w p a }
 
@@ -31,8 +31,8 @@ pub returns : goal.returns
 unfolding le32
 returns c =
     let s = c.args.start in
-    let at = contents-is c.args.element s _ _ _ _ c.alignment.ensures.value c.alignment-2.ensures.value c.gap_to.ensures.value c.gap_to-2.ensures.value in
-    let hole = hole-at c.args.element s _ _ _ _ c.alignment.ensures.value c.alignment-2.ensures.value c.gap_to.ensures.value c.gap_to-2.ensures.value in
+    let at = contents-is c.args.element s _ _ c.gap_to.ensures.value c.gap_to-2.ensures.value in
+    let hole = hole-at c.args.element s _ _ c.gap_to.ensures.value c.gap_to-2.ensures.value in
     let n : c.args.end - (s + c.gap_to.result + 4 + c.gap_to-2.result) ≡ c.args.end - contents_at c.args.element s = omega arith in
     let e : c.to_le_bytes.result ≡ le32 (c.args.end - contents_at c.args.element s) = c.to_le_bytes.ensures ∙ ap le32 n in
     let is : c.put_raw.new.bytes ≡ written c.args.bytes.now (s + length (pad Array s)) (le32 (c.args.end - contents_at c.args.element s)) =
