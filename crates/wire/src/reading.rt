@@ -78,6 +78,7 @@ impl Error for UnknownByteOrder {}
 pub fn gap_to(code: Code, at: usize) -> usize
     ensures value { result ≡ gap (align_of code) at }
     ensures below { result < align_of code }
+    ensures small { result < 8 }
 {
     let alignment = code.alignment();
     (alignment - at % alignment) % alignment

@@ -1,5 +1,3 @@
-use Rattle.std.proofs.Common.{ap, ◌∙◌}
-use Rattle.wire.specs.Reading.{gap}
 use Rattle.outbox.proofs.Chains.{poured-pad}
 use Rattle.outbox.proofs.writing.put_pad.Goals as goal
 
