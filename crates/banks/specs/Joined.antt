@@ -1,5 +1,5 @@
 -- Two lists of interfaces, one after the other, up to a number of them.
-use Rattle.std.specs.Prelude.{◌≡◌, ℕ, zero, suc, ◌+◌, ◌-◌, ◌<◌, ◌≤◌, min, Bool, true, List, [], ◌∷◌, ◌++◌, length, take, None, refl}
+use Rattle.std.specs.Prelude.{◌≡◌, ℕ, zero, suc, ◌+◌, ◌-◌, ◌<◌, ◌≤◌, min, Bool, true, List, [], ◌∷◌, ◌++◌, length, take, None, Ok, Err, refl}
 use Rattle.std.proofs.Math.Path.{sym, ap}
 use Rattle.std.proofs.Common.{subst, ◌∙◌, ⊎_elim, arith, length-append}
 use Rattle.std.proofs.Math.ListN.{length-take}
@@ -7,7 +7,7 @@ use Rattle.std.proofs.lemmas.Bool.{and_from, and_parts, lt-ltb, le-ltb, cond-tru
 use Rattle.std.specs.List.{slice_get}
 use Rattle.names.specs.Names.{all}
 use Rattle.effects.specs.Model.{InterfaceModel}
-use Rattle.banks.specs.declared.pair.Place.TheVariants.{First, Second, Nowhere}
+use Rattle.banks.specs.declared.pair.Place.TheVariants.{First, Second}
 use Rattle.banks.specs.Rows.{changed, joined, place_of, Stands}
 
 -- looking
@@ -62,17 +62,17 @@ module _ (f : InterfaceModel → InterfaceModel) where
 
 -- a number of a pair
 module _ (xs ys : List InterfaceModel) (i : ℕ) where
-  at_first : i < 65536 → i < length xs → Stands xs ys i (First i)
+  at_first : i < 65536 → i < length xs → Stands xs ys i (Ok (First i))
   unfolding joined
   at_first h k =
       (sym (nth-take 65536 (xs ++ ys) i h ∙ nth-front xs ys i k), λ f. ap (take 65536) (change-front f xs ys i k) ∙ change-take f 65536 (xs ++ ys) i)
 
-  at_second : i < 65536 → length xs ≤ i → Stands xs ys i (Second (i - length xs))
+  at_second : i < 65536 → length xs ≤ i → Stands xs ys i (Ok (Second (i - length xs)))
   unfolding joined
   at_second h k =
       (sym (nth-take 65536 (xs ++ ys) i h ∙ nth-back xs ys i k), λ f. ap (take 65536) (change-back f xs ys i k) ∙ change-take f 65536 (xs ++ ys) i)
 
-  at-neither : 65536 ≤ i → Stands xs ys i Nowhere
+  at-neither : 65536 ≤ i → Stands xs ys i (Err (record {}))
   unfolding joined
   at-neither h =
       (sym (nth_past 65536 (xs ++ ys) i h), λ f. sym (change-past f (joined xs ys) i (simp length-take (omega arith))))
@@ -82,8 +82,8 @@ module _ (xs ys : List InterfaceModel) (i : ℕ) where
   at_place =
       ⊎_elim
       (λ h. ⊎_elim
-      (λ k. subst (Stands xs ys i) (sym (cond-true _ _ _ (lt-ltb i 65536 h) ∙ cond-true _ _ _ (lt-ltb i (length xs) k))) (at_first h k))
-      (λ k. subst (Stands xs ys i) (sym (cond-true _ _ _ (lt-ltb i 65536 h) ∙ cond-false _ _ _ (le-ltb i (length xs) k))) (at_second h k))
+      (λ k. subst (Stands xs ys i) (sym (cond-true _ _ _ (lt-ltb i 65536 h) ∙ ap Ok (cond-true _ _ _ (lt-ltb i (length xs) k)))) (at_first h k))
+      (λ k. subst (Stands xs ys i) (sym (cond-true _ _ _ (lt-ltb i 65536 h) ∙ ap Ok (cond-false _ _ _ (le-ltb i (length xs) k)))) (at_second h k))
       (cases_lt i (length xs)))
       (λ h. subst (Stands xs ys i) (sym (cond-false _ _ _ (le-ltb i 65536 h))) (at-neither h))
       (cases_lt i 65536)

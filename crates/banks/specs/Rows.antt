@@ -4,7 +4,7 @@ use Rattle.std.specs.List.{slice_get}
 use Rattle.effects.specs.Model.{InterfaceModel}
 use Rattle.banks.specs.declared.bank.NoSuchInstance.{NoSuchInstance}
 use Rattle.banks.specs.declared.pair.Place.{Place}
-use Rattle.banks.specs.declared.pair.Place.TheVariants.{First, Second, Nowhere}
+use Rattle.banks.specs.declared.pair.Place.TheVariants.{First, Second}
 
 -- There are no more numbers than these.
 abbrev pub capacity : ℕ
@@ -25,6 +25,11 @@ abbrev pub through : {X Y E : Type 0} → (X → Y) → Result X E → Result Y 
 through f (Ok x) = Ok (f x)
 through f (Err e) = Err e
 
+-- What a bank of x alone has under a number.
+abbrev pub only : {X : Type 0} → X → ℕ → Result X NoSuchInstance
+only x zero = Ok x
+only x (suc i) = Err (record {})
+
 -- The list with the interface of number i changed, and no other.
 abbrev pub changed : (InterfaceModel → InterfaceModel) → List InterfaceModel → ℕ → List InterfaceModel
 changed f [] i = []
@@ -36,13 +41,13 @@ unfoldable pub joined : List InterfaceModel → List InterfaceModel → List Int
 joined xs ys = take capacity (xs ++ ys)
 
 -- Where number i is, if the first has n.
-abbrev pub place_of : ℕ → ℕ → Place
-place_of n i = cond (nat_lt i capacity) (cond (nat_lt i n) (First i) (Second (i - n))) Nowhere
+abbrev pub place_of : ℕ → ℕ → Result Place NoSuchInstance
+place_of n i = cond (nat_lt i capacity) (Ok (cond (nat_lt i n) (First i) (Second (i - n)))) (Err (record {}))
 
 -- What a place in one of two lists is good for: it has the interface of number i, and a change there is a change of number i.
-abbrev pub Stands : List InterfaceModel → List InterfaceModel → ℕ → Place → Type 0
-Stands xs ys i (First j) =
+abbrev pub Stands : List InterfaceModel → List InterfaceModel → ℕ → Result Place NoSuchInstance → Type 0
+Stands xs ys i (Ok (First j)) =
     (slice_get xs j ≡ slice_get (joined xs ys) i) × ((f : InterfaceModel → InterfaceModel) → joined (changed f xs j) ys ≡ changed f (joined xs ys) i)
-Stands xs ys i (Second j) =
+Stands xs ys i (Ok (Second j)) =
     (slice_get ys j ≡ slice_get (joined xs ys) i) × ((f : InterfaceModel → InterfaceModel) → joined xs (changed f ys j) ≡ changed f (joined xs ys) i)
-Stands xs ys i Nowhere = (None ≡ slice_get (joined xs ys) i) × ((f : InterfaceModel → InterfaceModel) → joined xs ys ≡ changed f (joined xs ys) i)
+Stands xs ys i (Err e) = (None ≡ slice_get (joined xs ys) i) × ((f : InterfaceModel → InterfaceModel) → joined xs ys ≡ changed f (joined xs ys) i)

@@ -18,6 +18,8 @@ pub struct NoSuchInstance;
 pub type Answer<T> = Result<T, NoSuchInstance>;
 
 // Interfaces numbered from 0, at most 65,536. A call on one leaves all others unchanged.
+// Each make forwards call by call: the gate refuses a function that hands out a `&dyn Interface`, and a closure that is
+// passed one cannot hand out a borrowed name.
 pub trait Bank {
     ghost models: { Self → List InterfaceModel };
 
@@ -61,10 +63,8 @@ pub trait Bank {
     ) -> Answer<DispatchResult2<'call>>
         ensures { through seen_dispatch result ≡ asked (λ _. requires_mut) (slice_get (models self.now) i) }
     {
-        match self.name(i) {
-            Ok(_) => Ok(DispatchResult2::RequiresMut),
-            Err(e) => Err(e),
-        }
+        self.name(i)?;
+        Ok(DispatchResult2::RequiresMut)
     }
 
     fn set_mut(&mut self, i: usize, name: &[u8], value: &Value) -> Answer<Result<(), SetRefusal>>

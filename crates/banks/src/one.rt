@@ -1,4 +1,5 @@
-ghost use Rattle.std.specs.Prelude.{[], ◌∷◌};
+ghost use Rattle.std.specs.Prelude.{◌≡◌, [], ◌∷◌};
+ghost use Rattle.banks.specs.Rows.{only, through};
 ghost use Rattle.std.proofs.Common.{rules};
 
 use crate::bank::{Answer, Bank, NoSuchInstance};
@@ -9,6 +10,19 @@ use effects::value::Value;
 #[derive(Drop)]
 pub struct One<I> {
     pub of: I,
+}
+
+impl<I: Interface> One<I> {
+    // The interface of number i: there is number 0 alone.
+    fn only(&self, i: usize) -> Answer<&I>
+        ensures { through (λ x. x.now) result ≡ only self.now.of i }
+    {
+        if i == 0 {
+            Ok(&self.of)
+        } else {
+            Err(NoSuchInstance)
+        }
+    }
 }
 
 impl<I: Interface> Bank for One<I> {
@@ -23,43 +37,23 @@ impl<I: Interface> Bank for One<I> {
     }
 
     fn name(&self, i: usize) -> Answer<&[u8]> {
-        if i == 0 {
-            Ok(self.of.name())
-        } else {
-            Err(NoSuchInstance)
-        }
+        Ok(self.only(i)?.name())
     }
 
     fn property_count(&self, i: usize) -> Answer<usize> {
-        if i == 0 {
-            Ok(self.of.property_count())
-        } else {
-            Err(NoSuchInstance)
-        }
+        Ok(self.only(i)?.property_count())
     }
 
     fn property(&self, i: usize, k: usize) -> Answer<Option<PropertyInfo<'_>>> {
-        if i == 0 {
-            Ok(self.of.property(k))
-        } else {
-            Err(NoSuchInstance)
-        }
+        Ok(self.only(i)?.property(k))
     }
 
     fn method_count(&self, i: usize) -> Answer<usize> {
-        if i == 0 {
-            Ok(self.of.method_count())
-        } else {
-            Err(NoSuchInstance)
-        }
+        Ok(self.only(i)?.method_count())
     }
 
     fn method(&self, i: usize, k: usize) -> Answer<Option<&[u8]>> {
-        if i == 0 {
-            Ok(self.of.method(k))
-        } else {
-            Err(NoSuchInstance)
-        }
+        Ok(self.only(i)?.method(k))
     }
 
     fn get(
@@ -68,42 +62,24 @@ impl<I: Interface> Bank for One<I> {
         name: &[u8],
         into: &mut Value,
     ) -> Answer<Option<Result<(), PropertyFault>>> {
-        if i == 0 {
-            Ok(self.of.get(name, into))
-        } else {
-            Err(NoSuchInstance)
-        }
+        Ok(self.only(i)?.get(name, into))
     }
 
     fn get_all(&self, i: usize, into: &mut [Value; 16]) -> Answer<Result<usize, PropertyFault>> {
-        if i == 0 {
-            Ok(self.of.get_all(into))
-        } else {
-            Err(NoSuchInstance)
-        }
+        Ok(self.only(i)?.get_all(into))
     }
 
     fn set_mut(&mut self, i: usize, name: &[u8], value: &Value) -> Answer<Result<(), SetRefusal>> {
-        if i == 0 {
-            Ok(self.of.set_mut(name, value))
-        } else {
-            Err(NoSuchInstance)
-        }
+        self.only(i)?;
+        Ok(self.of.set_mut(name, value))
     }
 
     fn call<'call>(&self, i: usize, name: &'call [u8]) -> Answer<DispatchResult2<'call>> {
-        if i == 0 {
-            Ok(self.of.call(name))
-        } else {
-            Err(NoSuchInstance)
-        }
+        Ok(self.only(i)?.call(name))
     }
 
     fn call_mut<'call>(&mut self, i: usize, name: &'call [u8]) -> Answer<DispatchResult2<'call>> {
-        if i == 0 {
-            Ok(self.of.call_mut(name))
-        } else {
-            Err(NoSuchInstance)
-        }
+        self.only(i)?;
+        Ok(self.of.call_mut(name))
     }
 }

@@ -11,7 +11,6 @@ use effects::value::Value;
 enum Place {
     First(usize),
     Second(usize),
-    Nowhere,
 }
 
 // Two banks in one: the second's numbers follow the first's, and there is none past 65,535.
@@ -22,16 +21,17 @@ pub struct Pair<A, B> {
 }
 
 // The place of number i, if the first has n.
-fn place_of(n: usize, i: usize) -> Place
+fn place_of(n: usize, i: usize) -> Answer<Place>
     ensures { result ≡ place_of n i }
 {
     if i >= 65536 {
-        Place::Nowhere
-    } else if i < n {
+        return Err(NoSuchInstance);
+    }
+    Ok(if i < n {
         Place::First(i)
     } else {
         Place::Second(i - n)
-    }
+    })
 }
 
 // How many numbers there are, if the first has m and the second n.
@@ -43,7 +43,7 @@ fn total(m: usize, n: usize) -> usize
 }
 
 impl<A: Bank, B: Bank> Pair<A, B> {
-    fn place(&self, i: usize) -> Place
+    fn place(&self, i: usize) -> Answer<Place>
         ensures answer { result ≡ place_of (length (A.Bank.models self.now.first)) i }
         ensures stands { Stands (A.Bank.models self.now.first) (B.Bank.models self.now.second) i result }
     {
@@ -61,47 +61,43 @@ impl<A: Bank, B: Bank> Bank for Pair<A, B> {
         (A.Bank.well x.first)
         (B.Bank.well x.second) };
 
+    #[tactic(auto, using(crate::specs::Joined::joined_length))]
     fn len(&self) -> usize {
         total(self.first.len(), self.second.len())
     }
 
     fn name(&self, i: usize) -> Answer<&[u8]> {
-        match self.place(i) {
+        match self.place(i)? {
             Place::First(j) => self.first.name(j),
             Place::Second(j) => self.second.name(j),
-            Place::Nowhere => Err(NoSuchInstance),
         }
     }
 
     fn property_count(&self, i: usize) -> Answer<usize> {
-        match self.place(i) {
+        match self.place(i)? {
             Place::First(j) => self.first.property_count(j),
             Place::Second(j) => self.second.property_count(j),
-            Place::Nowhere => Err(NoSuchInstance),
         }
     }
 
     fn property(&self, i: usize, k: usize) -> Answer<Option<PropertyInfo<'_>>> {
-        match self.place(i) {
+        match self.place(i)? {
             Place::First(j) => self.first.property(j, k),
             Place::Second(j) => self.second.property(j, k),
-            Place::Nowhere => Err(NoSuchInstance),
         }
     }
 
     fn method_count(&self, i: usize) -> Answer<usize> {
-        match self.place(i) {
+        match self.place(i)? {
             Place::First(j) => self.first.method_count(j),
             Place::Second(j) => self.second.method_count(j),
-            Place::Nowhere => Err(NoSuchInstance),
         }
     }
 
     fn method(&self, i: usize, k: usize) -> Answer<Option<&[u8]>> {
-        match self.place(i) {
+        match self.place(i)? {
             Place::First(j) => self.first.method(j, k),
             Place::Second(j) => self.second.method(j, k),
-            Place::Nowhere => Err(NoSuchInstance),
         }
     }
 
@@ -111,42 +107,37 @@ impl<A: Bank, B: Bank> Bank for Pair<A, B> {
         name: &[u8],
         into: &mut Value,
     ) -> Answer<Option<Result<(), PropertyFault>>> {
-        match self.place(i) {
+        match self.place(i)? {
             Place::First(j) => self.first.get(j, name, into),
             Place::Second(j) => self.second.get(j, name, into),
-            Place::Nowhere => Err(NoSuchInstance),
         }
     }
 
     fn get_all(&self, i: usize, into: &mut [Value; 16]) -> Answer<Result<usize, PropertyFault>> {
-        match self.place(i) {
+        match self.place(i)? {
             Place::First(j) => self.first.get_all(j, into),
             Place::Second(j) => self.second.get_all(j, into),
-            Place::Nowhere => Err(NoSuchInstance),
         }
     }
 
     fn set_mut(&mut self, i: usize, name: &[u8], value: &Value) -> Answer<Result<(), SetRefusal>> {
-        match self.place(i) {
+        match self.place(i)? {
             Place::First(j) => self.first.set_mut(j, name, value),
             Place::Second(j) => self.second.set_mut(j, name, value),
-            Place::Nowhere => Err(NoSuchInstance),
         }
     }
 
     fn call<'call>(&self, i: usize, name: &'call [u8]) -> Answer<DispatchResult2<'call>> {
-        match self.place(i) {
+        match self.place(i)? {
             Place::First(j) => self.first.call(j, name),
             Place::Second(j) => self.second.call(j, name),
-            Place::Nowhere => Err(NoSuchInstance),
         }
     }
 
     fn call_mut<'call>(&mut self, i: usize, name: &'call [u8]) -> Answer<DispatchResult2<'call>> {
-        match self.place(i) {
+        match self.place(i)? {
             Place::First(j) => self.first.call_mut(j, name),
             Place::Second(j) => self.second.call_mut(j, name),
-            Place::Nowhere => Err(NoSuchInstance),
         }
     }
 }

@@ -1,19 +1,19 @@
 -- What the walk through a value does at each place.
-use Rattle.std.proofs.Common.{◌≡◌, ℕ, zero, suc, ◌+◌, ◌<◌, ◌≤◌, List, length, get_or, Some, None, Ok, Err, Option, Result, sym, refl, ap, ◌∙◌, subst, arith}
-use Rattle.std.proofs.lemmas.Bool.{cond-false, cond-true, eq-eqb, le-ltb, lt-ltb, ne_eqb}
+use Rattle.std.proofs.Common.{◌≡◌, ℕ, zero, suc, ◌+◌, ◌<◌, List, get_or, Some, None, Ok, Err, Option, Result, sym, refl, ap, ◌∙◌, arith}
+use Rattle.std.proofs.lemmas.Bool.{cond-false, cond-true, lt-ltb, ne_eqb}
 use Rattle.std.specs.Result.{result_ok}
 use Rattle.signature.specs.declared.codes.Code.{Code}
 use Rattle.signature.specs.declared.codes.Code.TheVariants.{Byte, Boolean, Int16, Uint16, Int32, Uint32, Int64, Uint64, Double, UnixFd, String, ObjectPath, Signature, Array, Structure, DictEntry, Variant}
 use Rattle.signature.specs.declared.levels.Levels.{Levels}
 use Rattle.wire.specs.declared.reading.ByteOrder.{ByteOrder}
 use Rattle.wire.specs.declared.reading.Fault.{Fault}
-use Rattle.signature.specs.Codes.{code_of}
 use Rattle.signature.specs.Depth.{in_array, in_structure, in_variant}
 use Rattle.wire.specs.Reading.{Grown}
-use Rattle.signature.specs.Repeat.{bind, go, halt, onward}
+use Rattle.signature.specs.Repeat.{bind, go, onward}
 use Rattle.signature.specs.Signatures.{Inside}
-use Rattle.signature.proofs.Types.{array-all, array-none, descend, nowhere, structure-all, structure-none, stuck, through, variant-all, variant-none}
-use Rattle.skip.specs.Values.{Ahead, Skip, array_end, basic_end, field_turn, fields_end, fixed_end, item_turn, plainly, value_by, value_end, value_end_by, value_step, variant_end}
+use Rattle.signature.proofs.Table.{align-small}
+use Rattle.signature.proofs.Types.{array-all, array-none, descend, nowhere, structure-all, structure-none, variant-all, variant-none}
+use Rattle.skip.specs.Values.{Skip, array_end, basic_end, field_turn, fields_end, fixed_end, item_turn, value_end, value_end_by, value_step, variant_end}
 
 -- a code that asks nothing of its bytes
 pub fixed-alone : (order : ByteOrder) (msg : List ℕ) (c : Code) (at : ℕ) → (c ≡ Array → ⊥) → (c ≡ Structure → ⊥) → (c ≡ DictEntry → ⊥) → (c ≡ Variant → ⊥) → (c ≡ Boolean → ⊥) → (c ≡ String → ⊥) → (c ≡ ObjectPath → ⊥) → (c ≡ Signature → ⊥) → basic_end order msg c at ≡ fixed_end msg c at
@@ -39,12 +39,16 @@ pub inside-ok : (msg : List ℕ) (at n : ℕ) (r : Result ℕ Fault) → 0 < n �
 inside-ok msg at n (Ok p) h w = (omega (arith, w.0), w.1)
 inside-ok msg at n (Err e) h w = tt
 
+pub ruleset basics = (fixed-alone, inside-ok, align-small)
+
 -- a step that was read, and one that was not
 pub read : {A B : Type 0} {r : Result A Fault} {x : A} (f : A → Option B) → Ok x ≡ r → bind (result_ok r) f ≡ f x
 read f e = ap (λ r. bind (result_ok r) f) (sym e)
 
 pub unread : {A B : Type 0} {r : Result A Fault} {e : Fault} (f : A → Option B) → Err e ≡ r → bind (result_ok r) f ≡ None
 unread f e = ap (λ r. bind (result_ok r) f) (sym e)
+
+pub ruleset steps = (read, unread)
 
 -- where a value of such a type ends
 module _ (order : ByteOrder) (msg : List ℕ) where
@@ -79,68 +83,18 @@ module _ (order : ByteOrder) (msg : List ℕ) where
 
   module _ (l : Levels) (sig : List ℕ) (at pos : ℕ) where
     -- the definition's recursion, without its counter
-    value-here : value_end order msg l sig at pos ≡ value_step order msg (array_part l sig (at + 1) pos) (bracket_part 41 l sig (at + 1) pos) (bracket_part 125 l sig (at + 1) pos) (variant_part l pos) sig at pos
+    pub value-here : value_end order msg l sig at pos ≡ value_step order msg (array_part l sig (at + 1) pos) (bracket_part 41 l sig (at + 1) pos) (bracket_part 125 l sig (at + 1) pos) (variant_part l pos) sig at pos
     unfolding value_end
     value-here = here l sig at pos l.all refl
 
-    pub no_code : None ≡ code_of (get_or sig at 0) → None ≡ value_end order msg l sig at pos
-    no_code e = sym (value-here ∙ stuck _ e)
+pub ruleset walk = (value-here)
 
-    -- the code tells
-    pub by_code : {c : Code} (d : Code) → Some c ≡ code_of (get_or sig at 0) → c ≡ d → value_end order msg l sig at pos ≡ value_by order msg (array_part l sig (at + 1) pos) (bracket_part 41 l sig (at + 1) pos) (bracket_part 125 l sig (at + 1) pos) (variant_part l pos) at pos d
-    by_code d e is = value-here ∙ through _ e ∙ ap (value_by order msg (array_part l sig (at + 1) pos) (bracket_part 41 l sig (at + 1) pos) (bracket_part 125 l sig (at + 1) pos) (variant_part l pos) at pos) is
-
--- a code that is no container
-pub basic-alone : (order : ByteOrder) (msg : List ℕ) (a s t : Option (ℕ × ℕ)) (v : Option ℕ) (at pos : ℕ) (c : Code) → (c ≡ Array → ⊥) → (c ≡ Structure → ⊥) → (c ≡ DictEntry → ⊥) → (c ≡ Variant → ⊥) → value_by order msg a s t v at pos c ≡ plainly at (basic_end order msg c pos)
-basic-alone order msg a s t v at pos Byte x y z w = refl
-basic-alone order msg a s t v at pos Boolean x y z w = refl
-basic-alone order msg a s t v at pos Int16 x y z w = refl
-basic-alone order msg a s t v at pos Uint16 x y z w = refl
-basic-alone order msg a s t v at pos Int32 x y z w = refl
-basic-alone order msg a s t v at pos Uint32 x y z w = refl
-basic-alone order msg a s t v at pos Int64 x y z w = refl
-basic-alone order msg a s t v at pos Uint64 x y z w = refl
-basic-alone order msg a s t v at pos Double x y z w = refl
-basic-alone order msg a s t v at pos UnixFd x y z w = refl
-basic-alone order msg a s t v at pos String x y z w = refl
-basic-alone order msg a s t v at pos ObjectPath x y z w = refl
-basic-alone order msg a s t v at pos Signature x y z w = refl
-basic-alone order msg a s t v at pos Array x y z w = absurd (x refl)
-basic-alone order msg a s t v at pos Structure x y z w = absurd (y refl)
-basic-alone order msg a s t v at pos DictEntry x y z w = absurd (z refl)
-basic-alone order msg a s t v at pos Variant x y z w = absurd (w refl)
-
--- where the ends of a value lie
-module _ (msg sig : List ℕ) (at pos : ℕ) where
-  pub plain-ahead : (e : Option ℕ) (r : Option (ℕ × ℕ)) → r ≡ plainly at e → at < length sig → Inside msg pos e → Ahead msg sig at pos r
-  plain-ahead None r p h i = subst (Ahead msg sig at pos) (sym p) tt
-  plain-ahead (Some e) r p h i = subst (Ahead msg sig at pos) (sym p) (omega arith, omega arith, i.0, i.1)
-
-  pub one_on : (r : Option (ℕ × ℕ)) → Ahead msg sig (at + 1) pos r → Ahead msg sig at pos r
-  one_on None h = tt
-  one_on (Some p) h = (omega (arith, h.0), h.1, h.2, h.3)
-
--- one element more, and the end of the elements
+-- one element more
 module _ (f : ℕ → Option (ℕ × ℕ)) (end p : ℕ) where
   pub item_on : {q : ℕ × ℕ} → p < end → Some q ≡ f p → item_turn f end p ≡ go q.1
   item_on h e = cond-true _ _ _ (lt-ltb p end h) ∙ ap (λ o. onward (bind o (λ q. Some q.1))) (sym e)
 
-  pub item-none : p < end → None ≡ f p → item_turn f end p ≡ halt None
-  item-none h e = cond-true _ _ _ (lt-ltb p end h) ∙ ap (λ o. onward (bind o (λ q. Some q.1))) (sym e)
-
-  pub item-end : p ≡ end → item_turn f end p ≡ halt (Some end)
-  item-end e = cond-false _ _ _ (le-ltb p end (omega arith)) ∙ cond-true _ _ _ (eq-eqb p end e)
-
-  pub item-over : end ≤ p → (p ≡ end → ⊥) → item_turn f end p ≡ halt None
-  item-over h ne = cond-false _ _ _ (le-ltb p end h) ∙ cond-false _ _ _ (ne_eqb p end ne)
-
--- one field more, and the closing bracket
+-- one field more
 module _ (f : Skip) (close : ℕ) (sig : List ℕ) (i p : ℕ) where
   pub field-on : {q : ℕ × ℕ} → (get_or sig i 0 ≡ close → ⊥) → Some q ≡ f i p → field_turn f close sig (i, p) ≡ go q
   field-on ne e = cond-false _ _ _ (ne_eqb _ _ ne) ∙ ap onward (sym e)
-
-  pub field-none : (get_or sig i 0 ≡ close → ⊥) → None ≡ f i p → field_turn f close sig (i, p) ≡ halt None
-  field-none ne e = cond-false _ _ _ (ne_eqb _ _ ne) ∙ ap onward (sym e)
-
-  pub field-close : get_or sig i 0 ≡ close → field_turn f close sig (i, p) ≡ halt (Some (i + 1, p))
-  field-close e = cond-true _ _ _ (eq-eqb _ _ e)

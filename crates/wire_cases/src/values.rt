@@ -2,11 +2,11 @@
 use signature::levels::Levels;
 use skip::skip;
 use std::process::Abort;
-use wire::reading::{ByteOrder, Fault};
+use wire::reading::{ByteOrder, Fault, Reader};
 
 fn ends(rt: &impl Abort, signature: &[u8], message: &[u8], order: ByteOrder) {
     assert_eq!(rt;
-        skip(message, order, signature, 0, Levels::full()),
+        skip(Reader { message, order }, signature, 0, Levels::full()),
         Ok(message.len())
     );
 }
@@ -21,7 +21,7 @@ fn good(rt: &impl Abort, signature: &[u8], little: &[u8], big: &[u8]) {
 
 fn bad(rt: &impl Abort, signature: &[u8], message: &[u8], order: ByteOrder) {
     assert_eq!(rt;
-        skip(message, order, signature, 0, Levels::full()),
+        skip(Reader { message, order }, signature, 0, Levels::full()),
         Err(Fault::Value(0))
     );
 }
@@ -177,17 +177,52 @@ fn ill_formed_containers(rt: HostRuntime) {
 fn no_type(rt: HostRuntime) {
     let order = ByteOrder::Little;
     assert_eq!(rt;
-        skip(b"\x01\x01", order, b"yy", 0, Levels::full()),
+        skip(
+            Reader {
+                message: b"\x01\x01",
+                order
+            },
+            b"yy",
+            0,
+            Levels::full()
+        ),
         Err(Fault::Signature(0))
     );
     assert_eq!(rt;
-        skip(b"\x01", order, b"", 0, Levels::full()),
+        skip(
+            Reader {
+                message: b"\x01",
+                order
+            },
+            b"",
+            0,
+            Levels::full()
+        ),
         Err(Fault::Signature(0))
     );
     // A value begins anywhere, and what follows it is not looked at; past the message there is none.
-    assert_eq!(rt; skip(b"ab\x05cd", order, b"y", 2, Levels::full()), Ok(3));
     assert_eq!(rt;
-        skip(b"\x01", order, b"y", 9, Levels::full()),
+        skip(
+            Reader {
+                message: b"ab\x05cd",
+                order
+            },
+            b"y",
+            2,
+            Levels::full()
+        ),
+        Ok(3)
+    );
+    assert_eq!(rt;
+        skip(
+            Reader {
+                message: b"\x01",
+                order
+            },
+            b"y",
+            9,
+            Levels::full()
+        ),
         Err(Fault::Value(9))
     );
 }
@@ -199,10 +234,13 @@ fn variants(rt: HostRuntime) {
         b"\x01v\0\x01v\0\x01v\0\x01v\0\x01v\0\x01v\0\x01v\0\x01v\0\x01v\0\x01v\0\x01v\0\x01v\0\x01v\0\x01v\0\x01v\0\x01v\0\x01v\0\x01v\0\x01v\0\x01v\0\x01v\0\x01v\0\x01v\0\x01v\0\x01v\0\x01v\0\x01v\0\x01v\0\x01v\0\x01v\0\x01v\0\x01v\0\x01v\0\x01v\0\x01v\0\x01v\0\x01v\0\x01v\0\x01v\0\x01v\0\x01v\0\x01v\0\x01v\0\x01v\0\x01v\0\x01v\0\x01v\0\x01v\0\x01v\0\x01v\0\x01v\0\x01v\0\x01v\0\x01v\0\x01v\0\x01v\0\x01v\0\x01v\0\x01v\0\x01v\0\x01v\0\x01v\0\x01v\0\x01v\0\x01y\0\x09";
     let order = ByteOrder::Little;
     assert_eq!(rt;
-        skip(message, order, b"v", 0, Levels::full()),
+        skip(Reader { message, order }, b"v", 0, Levels::full()),
         Err(Fault::Value(0))
     );
-    assert_eq!(rt; skip(message, order, b"v", 3, Levels::full()), Ok(196));
+    assert_eq!(rt;
+        skip(Reader { message, order }, b"v", 3, Levels::full()),
+        Ok(196)
+    );
 }
 
 // Two arrays and a variant in each other: 34 arrays at 0, 32 at 16.
@@ -212,10 +250,13 @@ fn arrays_through_variants(rt: HostRuntime) {
         b"\x08\x01\0\0\x04\x01\0\0\x03aav\0\0\0\0\xf8\0\0\0\xf4\0\0\0\x03aav\0\0\0\0\xe8\0\0\0\xe4\0\0\0\x03aav\0\0\0\0\xd8\0\0\0\xd4\0\0\0\x03aav\0\0\0\0\xc8\0\0\0\xc4\0\0\0\x03aav\0\0\0\0\xb8\0\0\0\xb4\0\0\0\x03aav\0\0\0\0\xa8\0\0\0\xa4\0\0\0\x03aav\0\0\0\0\x98\0\0\0\x94\0\0\0\x03aav\0\0\0\0\x88\0\0\0\x84\0\0\0\x03aav\0\0\0\0x\0\0\0t\0\0\0\x03aav\0\0\0\0h\0\0\0d\0\0\0\x03aav\0\0\0\0X\0\0\0T\0\0\0\x03aav\0\0\0\0H\0\0\0D\0\0\0\x03aav\0\0\0\08\0\0\04\0\0\0\x03aav\0\0\0\0(\0\0\0\x24\0\0\0\x03aav\0\0\0\0\x18\0\0\0\x14\0\0\0\x03aav\0\0\0\0\x08\0\0\0\x04\0\0\0\x01y\0\x09";
     let order = ByteOrder::Little;
     assert_eq!(rt;
-        skip(message, order, b"aav", 0, Levels::full()),
+        skip(Reader { message, order }, b"aav", 0, Levels::full()),
         Err(Fault::Value(0))
     );
-    assert_eq!(rt; skip(message, order, b"aav", 16, Levels::full()), Ok(268));
+    assert_eq!(rt;
+        skip(Reader { message, order }, b"aav", 16, Levels::full()),
+        Ok(268)
+    );
 }
 
 // 32 arrays and in them 32 structures: 64 levels, and not one less.
@@ -225,11 +266,13 @@ fn levels(rt: HostRuntime) {
         b"}\0\0\0y\0\0\0u\0\0\0q\0\0\0m\0\0\0i\0\0\0e\0\0\0a\0\0\0\x5d\0\0\0Y\0\0\0U\0\0\0Q\0\0\0M\0\0\0I\0\0\0E\0\0\0A\0\0\0\x3d\0\0\09\0\0\05\0\0\01\0\0\0\x2d\0\0\0)\0\0\0\x25\0\0\0\x21\0\0\0\x1d\0\0\0\x19\0\0\0\x15\0\0\0\x11\0\0\0\x0d\0\0\0\x09\0\0\0\x05\0\0\0\x01\0\0\0\x07";
     let deep =
         b"aaaaaaaaaaaaaaaaaaaaaaaaaaaaaaaa((((((((((((((((((((((((((((((((y))))))))))))))))))))))))))))))))";
-    let order = ByteOrder::Little;
+    let reader = Reader {
+        message,
+        order: ByteOrder::Little,
+    };
     assert_eq!(rt;
         skip(
-            message,
-            order,
+            reader,
             deep,
             0,
             Levels {
@@ -242,8 +285,7 @@ fn levels(rt: HostRuntime) {
     );
     assert_eq!(rt;
         skip(
-            message,
-            order,
+            reader,
             deep,
             0,
             Levels {
@@ -256,8 +298,7 @@ fn levels(rt: HostRuntime) {
     );
     assert_eq!(rt;
         skip(
-            message,
-            order,
+            reader,
             deep,
             0,
             Levels {
@@ -270,8 +311,7 @@ fn levels(rt: HostRuntime) {
     );
     assert_eq!(rt;
         skip(
-            message,
-            order,
+            reader,
             deep,
             0,
             Levels {
