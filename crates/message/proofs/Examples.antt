@@ -8,7 +8,7 @@ use Rattle.wire.specs.Reading.{align_at, ended_at, fixed_at, gap, path_at, signa
 use Rattle.skip.specs.Values.{value_at, value_end}
 use Rattle.message.specs.declared.fault.HeaderFault.{HeaderFault}
 use Rattle.message.specs.declared.fault.HeaderFault.TheVariants.{BadFixedPart, BadField, NotACall}
-use Rattle.message.specs.Fields.{Value, count, known_at, number_value, padded, text, text_value, typed_at, unknown_at, value_in}
+use Rattle.message.specs.Fields.{Value, count, known_at, padded, text, typed_at, unknown_at, value_in}
 use Rattle.message.specs.Fixed.{fixed_of, lengths_meet, sound_fixed}
 use Rattle.message.specs.Headers.{HeaderModel, call_of, field_at, fields_of, header_of}
 
@@ -47,5 +47,5 @@ examples :
     ∷ Ok (Some (text (codes "/a")) ∷ None ∷ None ∷ None ∷ [])
     ∷ Err (BadField 32) ∷ Err (BadField 32) ∷ Err (BadField 32) ∷ Err (BadField 32) ∷ Err (BadField 32)
     ∷ Err (BadField 32) ∷ Err BadFixedPart ∷ Err BadFixedPart ∷ Err BadFixedPart ∷ Err NotACall ∷ Err (BadField 32) ∷ []
-unfolding call_of header_of fixed_of sound_fixed lengths_meet fields_of field_at known_at unknown_at value_in number_value text_value padded typed_at gap align_at fixed_at u32_at path_at signature_at text_at ended_at valid_signature single type_end code_of align_of full valid value_at value_end
+unfolding call_of header_of fixed_of sound_fixed lengths_meet fields_of field_at known_at unknown_at value_in padded typed_at gap align_at fixed_at u32_at path_at signature_at text_at ended_at valid_signature single type_end code_of align_of full valid value_at value_end
 examples = refl

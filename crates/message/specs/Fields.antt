@@ -1,5 +1,6 @@
 -- One header field: the D-Bus Specification, section "Header Fields", and its table.
-use Rattle.std.specs.Prelude.{ℕ, ◌<◌, ◌≤◌, Bool, true, cond, ◌||◌, List, [], ◌∷◌, length, is_ok, IfOk, Some, None, Ok, Err, codes, Option, Result, ◌==◌, nat_le}
+use Rattle.std.specs.Prelude.{◌≡◌, ℕ, ◌<◌, ◌≤◌, Bool, true, cond, ◌||◌, List, [], ◌∷◌, length, is_ok, IfErr, IfOk, Some, None, Ok, Err, codes, Option, Result, ◌==◌, nat_le}
+use Rattle.std.specs.Result.{result_ok}
 use Rattle.std.specs.Str.{bytes_eq}
 use Rattle.names.specs.Names.{valid_bus, valid_error, valid_interface, valid_member, valid_unique}
 use Rattle.signature.specs.Depth.{left}
@@ -13,86 +14,58 @@ use Rattle.message.specs.declared.fault.HeaderFault.TheVariants.{BadField}
 use Rattle.message.specs.declared.field.Field.{Field}
 use Rattle.message.specs.declared.field.Field.TheVariants as field
 use Rattle.message.specs.declared.field.FieldCode.{FieldCode}
-use Rattle.message.specs.declared.field.FieldCode.TheVariants.{Text, Number}
+use Rattle.message.specs.declared.field.FieldCode.TheVariants.{Path, Interface, Member, ErrorName, ReplySerial, Destination, Sender, Signature, UnixFds}
 use Rattle.message.specs.declared.field.Flaw.{Flaw}
 use Rattle.message.specs.declared.field.Flaw.TheVariants.{Twice, WrongType, BadValue}
-use Rattle.message.specs.declared.field.NumberCode.{NumberCode}
-use Rattle.message.specs.declared.field.NumberCode.TheVariants.{ReplySerial, UnixFds}
-use Rattle.message.specs.declared.field.TextCode.{TextCode}
-use Rattle.message.specs.declared.field.TextCode.TheVariants.{Path, Interface, Member, ErrorName, Destination, Sender, Signature}
+use Rattle.message.specs.declared.field.UnknownField.{UnknownField}
 
 pub data Value : Type 0 where
   text : List ℕ → Value
   count : ℕ → Value
 
-abbrev pub text_as : List ℕ → Value
-text_as bs = text bs
-
-abbrev pub count_as : ℕ → Value
-count_as n = count n
-
 -- Column "Decimal Code" of the table.
-abbrev pub text_number : TextCode → ℕ
-text_number Path = 1
-text_number Interface = 2
-text_number Member = 3
-text_number ErrorName = 4
-text_number Destination = 6
-text_number Sender = 7
-text_number Signature = 8
-
-abbrev pub count_number : NumberCode → ℕ
-count_number ReplySerial = 5
-count_number UnixFds = 9
-
 abbrev pub number_of : FieldCode → ℕ
-number_of (Text c) = text_number c
-number_of (Number c) = count_number c
+number_of Path = 1
+number_of Interface = 2
+number_of Member = 3
+number_of ErrorName = 4
+number_of ReplySerial = 5
+number_of Destination = 6
+number_of Sender = 7
+number_of Signature = 8
+number_of UnixFds = 9
 
 abbrev pub field_code : ℕ → Option FieldCode
 field_code b =
-    cond (b == 1) (Some (Text Path))
-    (cond (b == 2) (Some (Text Interface))
-    (cond (b == 3) (Some (Text Member))
-    (cond (b == 4) (Some (Text ErrorName))
-    (cond (b == 5) (Some (Number ReplySerial))
-    (cond (b == 6) (Some (Text Destination))
-    (cond (b == 7) (Some (Text Sender))
-    (cond (b == 8) (Some (Text Signature))
-    (cond (b == 9) (Some (Number UnixFds)) None))))))))
+    cond (b == 1) (Some Path)
+    (cond (b == 2) (Some Interface)
+    (cond (b == 3) (Some Member)
+    (cond (b == 4) (Some ErrorName)
+    (cond (b == 5) (Some ReplySerial)
+    (cond (b == 6) (Some Destination)
+    (cond (b == 7) (Some Sender)
+    (cond (b == 8) (Some Signature)
+    (cond (b == 9) (Some UnixFds) None))))))))
+
+-- what a byte converts to: its code, or, where it has none, an error that holds the byte
+abbrev pub Known : ℕ → Result FieldCode UnknownField → Type 0
+Known b r = (result_ok r ≡ field_code b) × IfErr r (λ e. e.0 ≡ b)
 
 -- column "Type": OBJECT_PATH, SIGNATURE and STRING; numbers are UINT32
-abbrev pub letter_of : TextCode → ℕ
-letter_of Path = 111
-letter_of Interface = 115
-letter_of Member = 115
-letter_of ErrorName = 115
-letter_of Destination = 115
-letter_of Sender = 115
-letter_of Signature = 103
-
 abbrev pub type_of : FieldCode → ℕ
-type_of (Text c) = letter_of c
-type_of (Number c) = 117
+type_of Path = 111
+type_of Interface = 115
+type_of Member = 115
+type_of ErrorName = 115
+type_of ReplySerial = 117
+type_of Destination = 115
+type_of Sender = 115
+type_of Signature = 103
+type_of UnixFds = 117
 
 -- "Unique name of the sending connection"; the bus itself sends under its own name
 unfoldable pub valid_sender : List ℕ → Bool
 valid_sender bs = valid_unique bs || bytes_eq bs (codes "org.freedesktop.DBus")
-
--- what a text of the type has to be besides: a name of the field's kind
-abbrev pub allowed : TextCode → List ℕ → Bool
-allowed Path bs = true
-allowed Interface bs = valid_interface bs
-allowed Member bs = valid_member bs
-allowed ErrorName bs = valid_error bs
-allowed Destination bs = valid_bus bs
-allowed Sender bs = valid_sender bs
-allowed Signature bs = true
-
--- no message has the serial 0
-abbrev pub allowed_number : NumberCode → ℕ → Bool
-allowed_number ReplySerial n = nat_le 1 n
-allowed_number UnixFds n = true
 
 -- what was read goes on; nothing read is a flaw
 abbrev pub reads : {A B : Type 0} → Flaw → Result A Fault → (A → Result B Flaw) → Result B Flaw
@@ -103,28 +76,25 @@ reads w (Err e) f = Err w
 abbrev pub Entry : Type 0
 Entry = ℕ × Value
 
--- a text of a field's type
-abbrev pub read_as : TextCode → ByteOrder → List ℕ → ℕ → Result (List ℕ × ℕ) Fault
-read_as Path order area at = path_at order area at
-read_as Interface order area at = string_at order area at
-read_as Member order area at = string_at order area at
-read_as ErrorName order area at = string_at order area at
-read_as Destination order area at = string_at order area at
-read_as Sender order area at = string_at order area at
-read_as Signature order area at = signature_at area at
+-- what was read, under its code, if it passes the test
+abbrev pub taken : {A : Type 0} → ℕ → (A → Value) → (A → Bool) → Result (A × ℕ) Fault → Result (Entry × ℕ) Flaw
+taken k value test r = reads BadValue r λ x. cond (test x.0) (Ok ((k, value x.0), x.1)) (Err BadValue)
 
--- a field's value, and the place after it
-unfoldable pub text_value : TextCode → ByteOrder → List ℕ → ℕ → Result (Entry × ℕ) Flaw
-text_value c order area at =
-    reads BadValue (read_as c order area at) λ t. cond (allowed c t.0) (Ok ((text_number c, text t.0), t.1)) (Err BadValue)
+abbrev pub any : {A : Type 0} → A → Bool
+any x = true
 
-unfoldable pub number_value : NumberCode → ByteOrder → List ℕ → ℕ → Result (Entry × ℕ) Flaw
-number_value c order area at =
-    reads BadValue (u32_at order area at) λ n. cond (allowed_number c n.0) (Ok ((count_number c, count n.0), n.1)) (Err BadValue)
-
+-- A field's value by its type, with what it has to be besides (a name of the field's kind; no message has the serial 0), and the
+-- place after it.
 unfoldable pub value_in : FieldCode → ByteOrder → List ℕ → ℕ → Result (Entry × ℕ) Flaw
-value_in (Text c) order area at = text_value c order area at
-value_in (Number c) order area at = number_value c order area at
+value_in Path order area at = taken 1 text any (path_at order area at)
+value_in Interface order area at = taken 2 text valid_interface (string_at order area at)
+value_in Member order area at = taken 3 text valid_member (string_at order area at)
+value_in ErrorName order area at = taken 4 text valid_error (string_at order area at)
+value_in ReplySerial order area at = taken 5 count (nat_le 1) (u32_at order area at)
+value_in Destination order area at = taken 6 text valid_bus (string_at order area at)
+value_in Sender order area at = taken 7 text valid_sender (string_at order area at)
+value_in Signature order area at = taken 8 text any (signature_at area at)
+value_in UnixFds order area at = taken 9 count any (u32_at order area at)
 
 -- the padding before a field: a structure is on a boundary of 8
 unfoldable pub padded : List ℕ → ℕ → Bool

@@ -1,14 +1,15 @@
 -- The fixed part of a header: the D-Bus Specification, section "Message Format". A header's signature is "yyyyuua(yv)"; its
 -- fixed part is what stands before the array's first field, sixteen bytes.
-use Rattle.std.specs.Prelude.{ℕ, ◌+◌, ◌≤◌, Bool, cond, ◌&&◌, List, length, Some, None, Ok, Err, Option, Result, ◌==◌, nat_le, nat_lt, slice_index}
+use Rattle.std.specs.Prelude.{◌≡◌, ℕ, ◌+◌, ◌≤◌, Bool, cond, ◌&&◌, List, length, IfErr, Some, None, Ok, Err, Option, Result, ◌==◌, nat_le, nat_lt, slice_index}
+use Rattle.std.specs.Result.{result_ok}
 use Rattle.signature.specs.Repeat.{bind}
 use Rattle.wire.specs.declared.reading.ByteOrder.{ByteOrder}
-use Rattle.wire.specs.declared.reading.ByteOrder.TheVariants.{Little, Big}
 use Rattle.wire.specs.declared.reading.Fault.{Fault}
-use Rattle.wire.specs.Reading.{gap, u32_at}
+use Rattle.wire.specs.Reading.{gap, order_of, u32_at}
 use Rattle.message.specs.declared.fault.HeaderFault.{HeaderFault}
 use Rattle.message.specs.declared.fault.HeaderFault.TheVariants.{ShortMessage, BadFixedPart}
 use Rattle.message.specs.declared.fixed.FixedPart.{FixedPart}
+use Rattle.message.specs.declared.fixed.InvalidType.{InvalidType}
 use Rattle.message.specs.declared.fixed.MessageType.{MessageType}
 use Rattle.message.specs.declared.fixed.MessageType.TheVariants.{MethodCall, MethodReturn, Error, Signal, Unknown}
 
@@ -16,15 +17,15 @@ use Rattle.message.specs.declared.fixed.MessageType.TheVariants.{MethodCall, Met
 abbrev pub raised : ℕ → ℕ
 raised at = at + gap 8 at
 
--- 1st BYTE: "ASCII 'l' for little-endian or ASCII 'B' for big-endian"
-abbrev pub order_of : ℕ → Option ByteOrder
-order_of b = cond (b == 108) (Some Little) (cond (b == 66) (Some Big) None)
-
 -- 2nd BYTE: "Unknown types must be ignored"; of 0: "This is an invalid type."
 abbrev pub message_type : ℕ → Option MessageType
 message_type b =
     cond (b == 0) None
     (cond (b == 1) (Some MethodCall) (cond (b == 2) (Some MethodReturn) (cond (b == 3) (Some Error) (cond (b == 4) (Some Signal) (Some (Unknown b))))))
+
+-- what a byte converts to: its type, or, where it has none, an error that holds the byte
+abbrev pub Typed : ℕ → Result MessageType InvalidType → Type 0
+Typed b r = (result_ok r ≡ message_type b) × IfErr r (λ e. e.0 ≡ b)
 
 abbrev pub value_in : Result (ℕ × ℕ) Fault → Option ℕ
 value_in (Ok x) = Some x.0

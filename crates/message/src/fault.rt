@@ -15,7 +15,7 @@ pub enum HeaderFault {
 }
 
 impl HeaderFault {
-    // The refusal's number.
+    // The refusal's number; `u8::from(fault)` would not say which number it is.
     pub fn number(self) -> u8
         ensures { result ≡ fault_number self }
     {

@@ -1,16 +1,15 @@
 // One header field: a code byte and a variant, on a boundary of 8.
-ghost use Rattle.std.specs.Prelude.{◌≡◌};
-ghost use Rattle.names.specs.Names.{valid};
-ghost use Rattle.wire.specs.Reading.{Past, seen};
-ghost use Rattle.message.specs.Fields.{After, Further, allowed, allowed_number, code_of, count_as, count_number, fault_of, field_code, field_seen, known_at, letter_of, number_value, padded, read_as, text_as, text_number, text_value, type_of, typed_at, unknown_at, valid_sender, value_in, value_of};
+ghost use Rattle.std.specs.Prelude.{◌≡◌, Bool, Err, IsOkAnd, MatchBool, MatchResult};
+ghost use Rattle.names.specs.Names.{valid_bus, valid_interface, valid_member, valid_unique};
+ghost use Rattle.message.specs.declared.field.Flaw.TheVariants.{BadValue};
+ghost use Rattle.message.specs.Fields.{After, Further, Known, fault_of, field_seen, known_at, padded, type_of, typed_at, unknown_at, valid_sender, value_in};
 
 use crate::fault::HeaderFault;
 use names::grammar::Alphabet;
-use names::same;
 use signature::codes::Code;
 use signature::levels::Levels;
 use skip::skip;
-use wire::reading::{ByteOrder, Fault, align, read_path, read_signature, read_string, read_u32};
+use wire::reading::{Fault, Reader, align, read_signature};
 
 // The name of the bus, under which it sends.
 const BUS: &[u8] = b"org.freedesktop.DBus";
@@ -37,31 +36,23 @@ pub enum Field<'m> {
     UnixFds(u32),
 }
 
-// The fields that hold a text.
+// The codes that are known.
 #[derive(Clone, Copy)]
-pub(crate) enum TextCode {
+pub(crate) enum FieldCode {
     Path,
     Interface,
     Member,
     ErrorName,
+    ReplySerial,
     Destination,
     Sender,
     Signature,
-}
-
-// The fields that hold a number.
-#[derive(Clone, Copy)]
-pub(crate) enum NumberCode {
-    ReplySerial,
     UnixFds,
 }
 
-// The codes that are known.
-#[derive(Clone, Copy)]
-pub(crate) enum FieldCode {
-    Text(TextCode),
-    Number(NumberCode),
-}
+// A code that is not known.
+#[derive(Clone, Copy, Debug, PartialEq, Eq)]
+pub(crate) struct UnknownField(pub(crate) u8);
 
 // Why a field is bad.
 #[derive(Clone, Copy)]
@@ -72,6 +63,15 @@ pub(crate) enum Flaw {
     WrongType,
     // A code, a padding or a value that may not be, or one that overruns.
     BadValue,
+}
+
+// What cannot be read is a value that may not be.
+impl From<Fault> for Flaw {
+    ghost from_gives = { λ _ flaw. flaw ≡ BadValue };
+
+    fn from(_fault: Fault) -> Flaw {
+        Flaw::BadValue
+    }
 }
 
 impl Flaw {
@@ -85,251 +85,166 @@ impl Flaw {
     }
 }
 
-fn is_name(text: &[u8], alphabet: Alphabet) -> bool
-    ensures { result ≡ valid alphabet text.now }
+// An interface's name, or an error's.
+fn is_interface(text: &[u8]) -> bool
+    ensures { result ≡ valid_interface text.now }
 {
-    match alphabet.check(text) {
-        Ok(()) => true,
-        Err(_) => false,
-    }
+    Alphabet::Name.check(text).is_ok()
 }
 
+fn is_member(text: &[u8]) -> bool
+    ensures { result ≡ valid_member text.now }
+{
+    Alphabet::Member.check(text).is_ok()
+}
+
+fn is_unique(text: &[u8]) -> bool
+    ensures { result ≡ valid_unique text.now }
+{
+    Alphabet::Unique.check(text).is_ok()
+}
+
+fn is_bus_name(text: &[u8]) -> bool
+    ensures { result ≡ valid_bus text.now }
+{
+    is_unique(text) || Alphabet::WellKnown.check(text).is_ok()
+}
+
+#[tactic(auto, unfolding(crate::specs::Fields::valid_sender))]
 fn is_sender(text: &[u8]) -> bool
     ensures { result ≡ valid_sender text.now }
 {
-    is_name(text, Alphabet::Unique) || same(text, BUS)
+    is_unique(text) || text == BUS
 }
 
-impl TextCode {
-    // Whether this field may hold this text of its type.
-    fn allows(self, text: &[u8]) -> bool
-        ensures { result ≡ allowed self text.now }
-    {
-        match self {
-            TextCode::Path | TextCode::Signature => true,
-            TextCode::Interface | TextCode::ErrorName => is_name(text, Alphabet::Name),
-            TextCode::Member => is_name(text, Alphabet::Member),
-            TextCode::Destination => {
-                is_name(text, Alphabet::Unique) || is_name(text, Alphabet::WellKnown)
-            }
-            TextCode::Sender => is_sender(text),
-        }
+// What was read, as a field, if it passes the test.
+fn taken<'m, T: Copy, P: FnOnce(T) -> bool, H: FnOnce(T) -> Field<'m>>(
+    read: Result<(T, usize), Fault>,
+    passes: P,
+    hold: H,
+) -> Result<(Field<'m>, usize), Flaw>
+    requires passes { P.IsAlwaysCallable passes }
+    requires hold { H.IsAlwaysCallable hold }
+    ensures { MatchResult read (λ x. (b : Bool) × P.post passes x.0 b × MatchBool b (IsOkAnd result (λ y. H.post hold x.0 y.0 × (y.1 ≡ x.1))) (result ≡ Err BadValue)) (λ _. result ≡ Err BadValue) }
+{
+    let (value, next) = read?;
+    if !passes(value) {
+        return Err(Flaw::BadValue);
     }
-
-    // The letter of its type.
-    fn letter(self) -> u8
-        ensures { result ≡ letter_of self }
-    {
-        match self {
-            TextCode::Path => b'o',
-            TextCode::Signature => b'g',
-            _ => b's',
-        }
-    }
-
-    fn hold<'m>(self, text: &'m [u8]) -> Field<'m>
-        ensures code { code_of result ≡ text_number self }
-        ensures value { value_of result ≡ text_as text.now }
-    {
-        match self {
-            TextCode::Path => Field::Path(text),
-            TextCode::Interface => Field::Interface(text),
-            TextCode::Member => Field::Member(text),
-            TextCode::ErrorName => Field::ErrorName(text),
-            TextCode::Destination => Field::Destination(text),
-            TextCode::Sender => Field::Sender(text),
-            TextCode::Signature => Field::Signature(text),
-        }
-    }
-
-    // A text of its type.
-    fn read_type<'m>(
-        self,
-        area: &'m [u8],
-        order: ByteOrder,
-        at: usize,
-    ) -> Result<(&'m [u8], usize), Fault>
-        ensures value { seen result ≡ read_as self order area.now at }
-        ensures within { Past area.now at 2 result }
-    {
-        match self {
-            TextCode::Path => read_path(area, order, at),
-            TextCode::Signature => read_signature(area, at),
-            _ => read_string(area, order, at),
-        }
-    }
-
-    // Its value.
-    fn read<'m>(
-        self,
-        area: &'m [u8],
-        order: ByteOrder,
-        at: usize,
-    ) -> Result<(Field<'m>, usize), Flaw>
-        ensures value { field_seen result ≡ text_value self order area.now at }
-        ensures within { After area.now at result }
-    {
-        let Ok((text, next)) = self.read_type(area, order, at) else {
-            return Err(Flaw::BadValue);
-        };
-        if !self.allows(text) {
-            return Err(Flaw::BadValue);
-        }
-        Ok((self.hold(text), next))
-    }
+    Ok((hold(value), next))
 }
 
-impl NumberCode {
-    // Whether this field may hold this number.
-    fn allows(self, n: u32) -> bool
-        ensures { result ≡ allowed_number self n }
-    {
-        match self {
-            NumberCode::ReplySerial => n != 0,
-            NumberCode::UnixFds => true,
-        }
-    }
+// The code of this byte.
+impl TryFrom<u8> for FieldCode {
+    type Error = UnknownField;
 
-    fn hold<'m>(self, n: u32) -> Field<'m>
-        ensures code { code_of result ≡ count_number self }
-        ensures value { value_of result ≡ count_as n }
-    {
-        match self {
-            NumberCode::ReplySerial => Field::ReplySerial(n),
-            NumberCode::UnixFds => Field::UnixFds(n),
-        }
-    }
+    ghost try_from_gives = { Known };
 
-    // Its value.
-    fn read<'m>(
-        self,
-        area: &'m [u8],
-        order: ByteOrder,
-        at: usize,
-    ) -> Result<(Field<'m>, usize), Flaw>
-        ensures value { field_seen result ≡ number_value self order area.now at }
-        ensures within { After area.now at result }
-    {
-        let Ok((n, next)) = read_u32(area, order, at) else {
-            return Err(Flaw::BadValue);
-        };
-        if !self.allows(n) {
-            return Err(Flaw::BadValue);
+    fn try_from(byte: u8) -> Result<Self, UnknownField> {
+        match byte {
+            1 => Ok(FieldCode::Path),
+            2 => Ok(FieldCode::Interface),
+            3 => Ok(FieldCode::Member),
+            4 => Ok(FieldCode::ErrorName),
+            5 => Ok(FieldCode::ReplySerial),
+            6 => Ok(FieldCode::Destination),
+            7 => Ok(FieldCode::Sender),
+            8 => Ok(FieldCode::Signature),
+            9 => Ok(FieldCode::UnixFds),
+            _ => Err(UnknownField(byte)),
         }
-        Ok((self.hold(n), next))
     }
 }
 
 impl FieldCode {
-    // The code of this byte, if it is known.
-    pub(crate) fn from_byte(byte: u8) -> Option<FieldCode>
-        ensures { result ≡ field_code byte }
-    {
-        match byte {
-            1 => Some(FieldCode::Text(TextCode::Path)),
-            2 => Some(FieldCode::Text(TextCode::Interface)),
-            3 => Some(FieldCode::Text(TextCode::Member)),
-            4 => Some(FieldCode::Text(TextCode::ErrorName)),
-            5 => Some(FieldCode::Number(NumberCode::ReplySerial)),
-            6 => Some(FieldCode::Text(TextCode::Destination)),
-            7 => Some(FieldCode::Text(TextCode::Sender)),
-            8 => Some(FieldCode::Text(TextCode::Signature)),
-            9 => Some(FieldCode::Number(NumberCode::UnixFds)),
-            _ => None,
-        }
-    }
-
     // The letter of its type.
     fn letter(self) -> u8
         ensures { result ≡ type_of self }
     {
         match self {
-            FieldCode::Text(code) => code.letter(),
-            FieldCode::Number(_) => b'u',
+            FieldCode::Path => b'o',
+            FieldCode::Signature => b'g',
+            FieldCode::ReplySerial | FieldCode::UnixFds => b'u',
+            _ => b's',
         }
     }
 
     // Past its variant's signature, which has to be its type.
+    #[tactic(auto, unfolding(crate::specs::Fields::typed_at))]
     fn typed(self, area: &[u8], at: usize) -> Result<usize, Flaw>
         ensures value { result ≡ typed_at self area.now at }
         ensures within { Further area.now at result }
     {
-        let Ok((signature, start)) = read_signature(area, at) else {
-            return Err(Flaw::WrongType);
-        };
-        if !same(signature, &[self.letter()]) {
+        let (signature, start) = read_signature(area, at).map_err(|_| Flaw::WrongType)?;
+        if signature != [self.letter()].as_slice() {
             return Err(Flaw::WrongType);
         }
         Ok(start)
     }
 
     // Its value.
-    fn read<'m>(
-        self,
-        area: &'m [u8],
-        order: ByteOrder,
-        at: usize,
-    ) -> Result<(Field<'m>, usize), Flaw>
-        ensures value { field_seen result ≡ value_in self order area.now at }
-        ensures within { After area.now at result }
+    #[tactic(auto, unfolding(crate::specs::Fields::value_in))]
+    fn read<'m>(self, reader: Reader<'m>, at: usize) -> Result<(Field<'m>, usize), Flaw>
+        ensures value { field_seen result ≡ value_in self reader.entry.order reader.entry.message.now at }
+        ensures within { After reader.entry.message.now at result }
     {
         match self {
-            FieldCode::Text(code) => code.read(area, order, at),
-            FieldCode::Number(code) => code.read(area, order, at),
+            FieldCode::Path => taken(reader.read_path(at), |_| true, Field::Path),
+            FieldCode::Interface => taken(reader.read_string(at), is_interface, Field::Interface),
+            FieldCode::Member => taken(reader.read_string(at), is_member, Field::Member),
+            FieldCode::ErrorName => taken(reader.read_string(at), is_interface, Field::ErrorName),
+            FieldCode::ReplySerial => taken(reader.read_u32(at), |n| n != 0, Field::ReplySerial),
+            FieldCode::Destination => taken(
+                reader.read_string(at),
+                is_bus_name,
+                Field::Destination,
+            ),
+            FieldCode::Sender => taken(reader.read_string(at), is_sender, Field::Sender),
+            FieldCode::Signature => taken(
+                read_signature(reader.message, at),
+                |_| true,
+                Field::Signature,
+            ),
+            FieldCode::UnixFds => taken(reader.read_u32(at), |_| true, Field::UnixFds),
         }
     }
 }
 
 // Whether the padding before a field is as few bytes as it takes, all zero.
+#[tactic(auto, unfolding(crate::specs::Fields::padded, signature::specs::Codes::align_of))]
 fn is_padded(area: &[u8], at: usize) -> bool
     ensures { result ≡ padded area.now at }
 {
-    match align(area, at, Code::Structure) {
-        Ok(_) => true,
-        Err(_) => false,
-    }
+    align(area, at, Code::Structure).is_ok()
 }
 
 // A field of a known code: its padding begins at `at`, its variant at `variant`.
+#[tactic(auto, unfolding(crate::specs::Fields::known_at))]
 pub(crate) fn known_field<'m>(
-    area: &'m [u8],
-    order: ByteOrder,
+    reader: Reader<'m>,
     code: FieldCode,
     at: usize,
     variant: usize,
 ) -> Result<(Field<'m>, usize), Flaw>
-    ensures value { field_seen result ≡ known_at code order area.now at variant }
-    ensures within { After area.now variant result }
+    ensures value { field_seen result ≡ known_at code reader.entry.order reader.entry.message.now at variant }
+    ensures within { After reader.entry.message.now variant result }
 {
-    let start = code.typed(area, variant)?;
-    if !is_padded(area, at) {
+    let start = code.typed(reader.message, variant)?;
+    if !is_padded(reader.message, at) {
         return Err(Flaw::BadValue);
     }
-    code.read(area, order, start)
+    code.read(reader, start)
 }
 
 // Past a field of an unknown code.
-pub(crate) fn skip_field(
-    area: &[u8],
-    order: ByteOrder,
-    byte: u8,
-    at: usize,
-    variant: usize,
-) -> Result<usize, Flaw>
-    ensures value { result ≡ unknown_at byte order area.now at variant }
-    ensures within { Further area.now variant result }
+#[tactic(auto, unfolding(crate::specs::Fields::unknown_at))]
+pub(crate) fn skip_field(reader: Reader, byte: u8, at: usize, variant: usize) -> Result<usize, Flaw>
+    ensures value { result ≡ unknown_at byte reader.entry.order reader.entry.message.now at variant }
+    ensures within { Further reader.entry.message.now variant result }
 {
-    if byte == 0 {
+    if byte == 0 || !is_padded(reader.message, at) {
         return Err(Flaw::BadValue);
     }
-    if !is_padded(area, at) {
-        return Err(Flaw::BadValue);
-    }
-    let Ok((signature, start)) = read_signature(area, variant) else {
-        return Err(Flaw::BadValue);
-    };
-    match skip(area, order, signature, start, FIELD_LEVELS) {
-        Ok(end) => Ok(end),
-        Err(_) => Err(Flaw::BadValue),
-    }
+    let (signature, start) = read_signature(reader.message, variant)?;
+    Ok(skip(reader, signature, start, FIELD_LEVELS)?)
 }

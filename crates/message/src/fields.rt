@@ -1,12 +1,12 @@
 // The fields of a header, each at most once.
 ghost use Rattle.std.specs.Prelude.{◌≡◌, ℕ, ◌+◌, ◌<◌, ◌≤◌, length, is_some, None};
-ghost use Rattle.message.specs.Fields.{After, number_of, text_number};
+ghost use Rattle.message.specs.Fields.{After, number_of};
 ghost use Rattle.message.specs.Headers.{entered, entered_all, field_at, fields_of, fields_seen, found_seen, look, noted};
 
 use crate::fault::HeaderFault;
-use crate::field::{Field, FieldCode, Flaw, NumberCode, TextCode, known_field, skip_field};
+use crate::field::{Field, FieldCode, Flaw, known_field, skip_field};
 use crate::fixed::{FIXED_LEN, raise};
-use wire::reading::{ByteOrder, read_byte};
+use wire::reading::{Reader, read_byte};
 
 #[derive(Clone, Copy)]
 pub(crate) struct Fields<'m> {
@@ -43,23 +43,15 @@ impl<'m> Fields<'m> {
         ensures { result ≡ is_some (look self.now (number_of code)) }
     {
         match code {
-            FieldCode::Text(text) => self.has_text(text),
-            FieldCode::Number(NumberCode::ReplySerial) => self.reply_serial.is_some(),
-            FieldCode::Number(NumberCode::UnixFds) => self.unix_fds.is_some(),
-        }
-    }
-
-    fn has_text(&self, code: TextCode) -> bool
-        ensures { result ≡ is_some (look self.now (text_number code)) }
-    {
-        match code {
-            TextCode::Path => self.path.is_some(),
-            TextCode::Interface => self.interface.is_some(),
-            TextCode::Member => self.member.is_some(),
-            TextCode::ErrorName => self.error_name.is_some(),
-            TextCode::Destination => self.destination.is_some(),
-            TextCode::Sender => self.sender.is_some(),
-            TextCode::Signature => self.signature.is_some(),
+            FieldCode::Path => self.path.is_some(),
+            FieldCode::Interface => self.interface.is_some(),
+            FieldCode::Member => self.member.is_some(),
+            FieldCode::ErrorName => self.error_name.is_some(),
+            FieldCode::ReplySerial => self.reply_serial.is_some(),
+            FieldCode::Destination => self.destination.is_some(),
+            FieldCode::Sender => self.sender.is_some(),
+            FieldCode::Signature => self.signature.is_some(),
+            FieldCode::UnixFds => self.unix_fds.is_some(),
         }
     }
 
@@ -84,53 +76,48 @@ impl<'m> Fields<'m> {
     fn note(&mut self, found: Option<Field<'m>>)
         ensures { (k : ℕ) → look self.new k ≡ noted (entered_all found.entry) (look self.old) k }
     {
-        match found {
-            Some(field) => self.put(field),
-            None => {}
+        if let Some(field) = found {
+            self.put(field);
         }
     }
 }
 
 // One field after those that were read; none, if its code is unknown.
+#[tactic(auto, unfolding(crate::specs::Headers::field_at))]
 fn read_field<'m>(
-    area: &'m [u8],
-    order: ByteOrder,
+    reader: Reader<'m>,
     fields: &Fields<'m>,
     at: usize,
 ) -> Result<(Option<Field<'m>>, usize), Flaw>
     requires { at < 4294967296 }
-    ensures value { found_seen result ≡ field_at order area.now (look fields.now) at }
-    ensures within { After area.now at result }
+    ensures value { found_seen result ≡ field_at reader.entry.order reader.entry.message.now (look fields.now) at }
+    ensures within { After reader.entry.message.now at result }
 {
-    let Ok((byte, variant)) = read_byte(area, raise(at)) else {
-        return Err(Flaw::BadValue);
-    };
-    let Some(code) = FieldCode::from_byte(byte) else {
-        let end = skip_field(area, order, byte, at, variant)?;
+    let (byte, variant) = read_byte(reader.message, raise(at))?;
+    let Ok(code) = FieldCode::try_from(byte) else {
+        let end = skip_field(reader, byte, at, variant)?;
         return Ok((None, end));
     };
     if fields.has(code) {
         return Err(Flaw::Twice);
     }
-    let (field, end) = known_field(area, order, code, at, variant)?;
+    let (field, end) = known_field(reader, code, at, variant)?;
     Ok((Some(field), end))
 }
 
 // The fields of a header, which is this long without the padding at its end.
-pub(crate) fn read_fields<'m>(area: &'m [u8], order: ByteOrder) -> Result<Fields<'m>, HeaderFault>
-    requires { length area.now < 4294967296 }
-    ensures { fields_seen result ≡ fields_of order area.now }
+pub(crate) fn read_fields(reader: Reader) -> Result<Fields, HeaderFault>
+    requires { length reader.message.now < 4294967296 }
+    ensures { fields_seen result ≡ fields_of reader.entry.order reader.entry.message.now }
 {
     let mut fields = Fields::none();
+    // A field's length moves the place: no iterator knows it.
     let mut at = FIXED_LEN;
-    while at < area.len() {
-        match read_field(area, order, &fields, at) {
-            Ok((found, end)) => {
-                fields.note(found);
-                at = end;
-            }
-            Err(flaw) => return Err(flaw.at(raise(at))),
-        }
+    while at < reader.message.len() {
+        let place = raise(at);
+        let (found, end) = read_field(reader, &fields, at).map_err(|flaw| flaw.at(place))?;
+        fields.note(found);
+        at = end;
     }
     Ok(fields)
 }

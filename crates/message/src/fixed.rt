@@ -1,16 +1,19 @@
 // The fixed part of a header: its first sixteen bytes.
 ghost use Rattle.std.specs.Prelude.{◌≡◌, ◌+◌, ◌<◌, ◌≤◌, length, IfSome, IfOk};
-ghost use Rattle.message.specs.Fixed.{Inside, fixed_of, lengths_meet, message_type, order_of, raised, sound_fixed, word_at};
+ghost use Rattle.message.specs.Fixed.{Inside, Typed, fixed_of, lengths_meet, raised, sound_fixed, word_at};
 
 use crate::fault::HeaderFault;
-use wire::reading::{ByteOrder, read_u32};
+use signature::codes::Code;
+use std::error::Error;
+use std::fmt;
+use wire::reading::{ByteOrder, Reader, gap_to};
 
 // The bytes of the fixed part.
 pub(crate) const FIXED_LEN: usize = 16;
 // An array has at most 2^26 bytes.
-const MAX_FIELDS: u32 = 67108864;
+const MAX_FIELDS: u32 = 1 << 26;
 // A message has at most 2^27 bytes.
-const MAX_MESSAGE: usize = 134217728;
+const MAX_MESSAGE: usize = 1 << 27;
 
 // What a message is.
 #[derive(Clone, Copy, Debug, PartialEq, Eq)]
@@ -23,21 +26,35 @@ pub enum MessageType {
     Unknown(u8),
 }
 
-impl MessageType {
-    // The type of this number. 0 is none.
-    pub fn from_byte(byte: u8) -> Option<MessageType>
-        ensures { result ≡ message_type byte }
-    {
+// A byte that is the number of no type of message: 0.
+#[derive(Clone, Copy, Debug, PartialEq, Eq)]
+pub struct InvalidType(pub u8);
+
+// The type of this number. 0 is none.
+impl TryFrom<u8> for MessageType {
+    type Error = InvalidType;
+
+    ghost try_from_gives = { Typed };
+
+    fn try_from(byte: u8) -> Result<Self, InvalidType> {
         match byte {
-            0 => None,
-            1 => Some(MessageType::MethodCall),
-            2 => Some(MessageType::MethodReturn),
-            3 => Some(MessageType::Error),
-            4 => Some(MessageType::Signal),
-            other => Some(MessageType::Unknown(other)),
+            0 => Err(InvalidType(byte)),
+            1 => Ok(MessageType::MethodCall),
+            2 => Ok(MessageType::MethodReturn),
+            3 => Ok(MessageType::Error),
+            4 => Ok(MessageType::Signal),
+            other => Ok(MessageType::Unknown(other)),
         }
     }
 }
+
+impl fmt::Display for InvalidType {
+    fn fmt<W: fmt::Write>(&self, f: &mut fmt::Formatter<W>) -> fmt::Result {
+        write!(f, "no message has the type {}", self.0)
+    }
+}
+
+impl Error for InvalidType {}
 
 // What the fixed part says.
 #[derive(Clone, Copy)]
@@ -50,34 +67,23 @@ pub(crate) struct FixedPart {
 }
 
 // The next multiple of 8.
+#[tactic(auto, unfolding(signature::specs::Codes::align_of))]
 pub(crate) fn raise(at: usize) -> usize
     requires { at < 4294967296 }
     ensures value { result ≡ raised at }
     ensures near { (at ≤ result) × (result < at + 8) }
 {
-    at + (8 - at % 8) % 8
+    at + gap_to(Code::Structure, at)
 }
 
-fn byte_order(byte: u8) -> Option<ByteOrder>
-    ensures { result ≡ order_of byte }
+fn word_at(reader: Reader, at: usize) -> Option<u32>
+    ensures { result ≡ word_at reader.entry.order reader.entry.message.now at }
 {
-    match byte {
-        b'l' => Some(ByteOrder::Little),
-        b'B' => Some(ByteOrder::Big),
-        _ => None,
-    }
-}
-
-fn word_at(message: &[u8], order: ByteOrder, at: usize) -> Option<u32>
-    ensures { result ≡ word_at order message.now at }
-{
-    match read_u32(message, order, at) {
-        Ok((word, _)) => Some(word),
-        Err(_) => None,
-    }
+    reader.read_u32(at).ok().map(|(word, _)| word)
 }
 
 // Whether the fields and a body of these lengths fill the message, within the limits.
+#[tactic(auto, unfolding(crate::specs::Fixed::lengths_meet))]
 fn lengths_meet(message: &[u8], fields_len: u32, body_len: u32) -> bool
     ensures { result ≡ lengths_meet message.now fields_len body_len }
 {
@@ -89,6 +95,7 @@ fn lengths_meet(message: &[u8], fields_len: u32, body_len: u32) -> bool
 
 impl FixedPart {
     // The fixed part, if nothing in it is wrong.
+    #[tactic(auto, using(crate::proofs::Lengths::fields_inside), unfolding(crate::specs::Fixed::sound_fixed))]
     fn sound(message: &[u8]) -> Option<FixedPart>
         requires { 16 ≤ length message.now }
         ensures value { result ≡ sound_fixed message.now }
@@ -97,17 +104,18 @@ impl FixedPart {
         let [order, kind, flags, version, ..] = message else {
             return None;
         };
-        let order = byte_order(*order)?;
-        let kind = MessageType::from_byte(*kind)?;
+        let order = ByteOrder::try_from(*order).ok()?;
+        let kind = MessageType::try_from(*kind).ok()?;
         if *version != 1 {
             return None;
         }
-        let body_len = word_at(message, order, 4)?;
-        let serial = word_at(message, order, 8)?;
+        let reader = Reader { message, order };
+        let body_len = word_at(reader, 4)?;
+        let serial = word_at(reader, 8)?;
         if serial == 0 {
             return None;
         }
-        let fields_len = word_at(message, order, 12)?;
+        let fields_len = word_at(reader, 12)?;
         if !lengths_meet(message, fields_len, body_len) {
             return None;
         }
@@ -121,6 +129,7 @@ impl FixedPart {
     }
 
     // The fixed part of a message of any type.
+    #[tactic(auto, unfolding(crate::specs::Fixed::fixed_of))]
     pub(crate) fn read(message: &[u8]) -> Result<FixedPart, HeaderFault>
         ensures value { result ≡ fixed_of message.now }
         ensures within { IfOk result (Inside message.now) }
@@ -128,9 +137,6 @@ impl FixedPart {
         if message.len() < FIXED_LEN {
             return Err(HeaderFault::ShortMessage);
         }
-        match FixedPart::sound(message) {
-            Some(fixed) => Ok(fixed),
-            None => Err(HeaderFault::BadFixedPart),
-        }
+        FixedPart::sound(message).ok_or(HeaderFault::BadFixedPart)
     }
 }

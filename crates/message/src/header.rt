@@ -6,7 +6,7 @@ use crate::fault::HeaderFault;
 use crate::fields::{Fields, read_fields};
 use crate::fixed::{FIXED_LEN, FixedPart, MessageType};
 use signature::codes::Code;
-use wire::reading::{ByteOrder, align};
+use wire::reading::{ByteOrder, Reader, align};
 
 // The flag by which a caller says that it waits for no answer.
 const NO_REPLY_EXPECTED: u8 = 1;
@@ -20,15 +20,17 @@ pub struct Header<'m> {
 
 impl<'m> Header<'m> {
     // The header of a message of any type.
+    #[tactic(auto, unfolding(crate::specs::Headers::header_of, signature::specs::Codes::align_of))]
     pub fn read(message: &'m [u8]) -> Result<Header<'m>, HeaderFault>
         ensures { header_seen result ≡ header_of message.now }
     {
         let fixed = FixedPart::read(message)?;
         let end = FIXED_LEN + fixed.fields_len as usize;
-        let fields = read_fields(&message[..end], fixed.order)?;
-        let Ok(start) = align(message, end, Code::Structure) else {
-            return Err(HeaderFault::BadField(end));
-        };
+        let fields = read_fields(Reader {
+            message: &message[..end],
+            order: fixed.order,
+        })?;
+        let start = align(message, end, Code::Structure).map_err(|_| HeaderFault::BadField(end))?;
         Ok(Header {
             fixed,
             fields,
@@ -37,6 +39,7 @@ impl<'m> Header<'m> {
     }
 
     // The header of a call.
+    #[tactic(auto, unfolding(crate::specs::Headers::call_of))]
     pub fn call(message: &'m [u8]) -> Result<Header<'m>, HeaderFault>
         ensures { header_seen result ≡ call_of message.now }
     {

@@ -8,35 +8,31 @@
 // are those of a reader of its own, written from the rules and not from this code.
 #![tactic(auto)]
 
+ghost use Rattle.std.specs.Prelude.{◌<◌};
+
 use message::fault::HeaderFault;
 use message::header::Header;
 use std::alloc::{AllocError, Global};
 use std::str::from_utf8;
 
-// The value of a hexadecimal digit.
-fn digit(b: u8) -> Option<u8> {
+// The value of a hexadecimal digit; what is no digit counts as 0.
+fn digit(b: u8) -> u8
+    ensures { result < 16 }
+{
     match b {
-        b'0'..=b'9' => Some(b - b'0'),
-        b'a'..=b'f' => Some(b - b'a' + 10),
-        _ => None,
+        b'0'..=b'9' => b - b'0',
+        b'a'..=b'f' => b - b'a' + 10,
+        _ => 0,
     }
 }
 
-// The bytes that pairs of digits stand for; what is no digit counts as 0.
+// The bytes that pairs of digits stand for.
 fn bytes_of(heap: Global, text: &[u8]) -> Result<Vec<u8>, AllocError> {
-    let mut bytes = Vec::new(heap);
-    let mut high = None;
-    for b in text {
-        let low = digit(*b).unwrap_or(0);
-        match high {
-            None => high = Some(low),
-            Some(h) => {
-                bytes.push(h.wrapping_mul(16).wrapping_add(low))?;
-                high = None;
-            }
-        }
-    }
-    Ok(bytes)
+    let (pairs, _) = text.as_chunks::<2>();
+    pairs
+        .iter()
+        .map(|[high, low]| digit(*high) * 16 + digit(*low))
+        .collect(heap)
 }
 
 // The place that a refusal tells.
@@ -62,24 +58,16 @@ fn agrees(expected: &str, message: &[u8]) -> bool {
     match Header::call(message) {
         Ok(_) => expected == "ok" && Header::read(message).is_ok(),
         Err(fault) => {
-            let any_type = match Header::read(message) {
-                Ok(_) => fault == HeaderFault::NotACall,
-                Err(other) => other == fault,
-            };
-            any_type && refused(expected, fault)
+            // As a message of any type it is refused for the same reason, unless all that it is not is a call.
+            let any_type = Header::read(message).err().unwrap_or(HeaderFault::NotACall);
+            any_type == fault && refused(expected, fault)
         }
     }
 }
 
 // A part of a message as text; a dash where it is absent.
 fn shown(part: Option<&[u8]>) -> &str {
-    let Some(bytes) = part else {
-        return "-";
-    };
-    match from_utf8(bytes) {
-        Ok(text) => text,
-        Err(_) => "?",
-    }
+    part.map_or("-", |bytes| from_utf8(bytes).unwrap_or("?"))
 }
 
 // A call as the trace window shows it.

@@ -1,5 +1,6 @@
 -- Truth values, and bytes compared.
-use Rattle.std.proofs.Common.{◌≡◌, ℕ, Bool, true, false, ◌&&◌, ◌||◌, eqb, ◌⊎◌, [], ◌∷◌, sym, refl, ◌∙◌, ap₂, inl, inr, true≢false}
+use Rattle.std.proofs.Common.{◌≡◌, ℕ, Bool, true, false, ◌&&◌, ◌||◌, eqb, ◌⊎◌, [], ◌∷◌, sym, refl, ◌∙◌, ap₂, inl, inr, true≢false, Option, Some, None, Err}
+use Rattle.std.specs.Option.{ok_or}
 use mathlib.Core.Bool.{false≢true}
 use Rattle.std.proofs.lemmas.Bool.{eqb-true, eq-eqb}
 use Rattle.std.specs.Str.{bytes_eq}
@@ -57,3 +58,8 @@ same-eq (x ∷ a) (y ∷ b) h =
 pub same_refl : (a : Bytes) → bytes_eq a a ≡ true
 same_refl [] = refl
 same_refl (x ∷ a) = and_i (eqb x x) (bytes_eq a a) (eqb_same x) (same_refl a)
+
+-- what an `Err` of `ok_or` tells
+pub none-ok_or : {A : Type 0} (o : Option A) (e d : ℕ) → ok_or o e ≡ Err d → (o ≡ None) × (d ≡ e)
+none-ok_or None e d h = (refl, cc)
+none-ok_or (Some x) e d h = cc

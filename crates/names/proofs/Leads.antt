@@ -1,15 +1,15 @@
 -- Names that begin with a certain byte.
-use Rattle.std.proofs.Common.{◌≡◌, ℕ, suc, ◌+◌, ◌-◌, ◌<◌, Bool, true, false, cond, ◌&&◌, eqb, leb, List, [], ◌∷◌, ◌++◌, length, get_or, take, drop, Some, None, Option, sym, refl, ap, ◌∙◌, subst, add-one, arith, MatchOption}
+use Rattle.std.proofs.Common.{◌≡◌, ℕ, suc, ◌+◌, ◌<◌, Bool, true, false, cond, ◌&&◌, eqb, leb, List, [], ◌∷◌, ◌++◌, length, take, drop, Some, None, sym, refl, ap, ◌∙◌, subst, add-one, arith, MatchResult, IsErrAnd, Result, Ok, Err, ◌⊎◌, inl, inr, nat_eq}
+use Rattle.std.specs.Prelude.{⊤}
+use lib.Pointwise.{pointwise}
 use mathlib.Core.Bool.{false≢true}
-use Rattle.std.proofs.lemmas.Slice.{between_to_end}
-use Rattle.std.proofs.lemmas.Bool.{eqb-true, eq-eqb}
+use Rattle.std.proofs.lemmas.Bool.{eqb-true}
 use Rattle.names.specs.declared.grammar.Alphabet.{Alphabet}
 use Rattle.names.specs.declared.grammar.Alphabet.TheVariants.{Path, Name, Member, WellKnown, Unique}
 use Rattle.names.specs.declared.grammar.Invalid.{Invalid}
-use Rattle.names.specs.Names.{Bytes, valid, all, onto, pieces, dot, short, dotted, rooted, elements_of, path_element, name_element, bus_element, unique_element}
-use Rattle.names.specs.Faults.{Breaks, separates, spells, several, good, fits, Refusal}
-use Rattle.names.specs.Scan.{led}
-use Rattle.names.proofs.Bools.{and-true, and-false}
+use Rattle.names.specs.Names.{Bytes, valid, all, onto, pieces, dot, short, dotted, name_element, bus_element, unique_element}
+use Rattle.names.specs.Faults.{Breaks, Checked, lead, after_lead, separates, spells, several, good, fits, Refusal}
+use Rattle.names.proofs.Bools.{and_l, and-true, and-false}
 use Rattle.names.specs.Buses.{colon_first, bus_alphabet}
 
 -- `outer` is L and then `inner`
@@ -18,21 +18,13 @@ pub record Led (L : ℕ) (inner outer : Bytes → Bool) : Type 0 where
   pub some : (b : ℕ) (rest : Bytes) → outer (b ∷ rest) ≡ eqb b L && inner rest
   pub first : eqb L L ≡ true
 
-chosen-some : (t : Bool) (s rest : Bytes) → ◌≡◌ {A = Option Bytes} (Some rest) (cond t (Some s) None) → (t ≡ true) × (s ≡ rest)
-chosen-some true s rest e = (refl, cc)
-chosen-some false s rest e = let z : ◌≡◌ {A = ℕ} 0 1 = cc in absurd (omega arith)
+-- whether L comes first, as `strip_prefix` asks it
+abbrev pub starts : ℕ → Bytes → Bool
+starts L s = pointwise nat_eq (take 1 s) (L ∷ [])
 
-pub led-some : (L : ℕ) (s rest : Bytes) → Some rest ≡ led L s → s ≡ L ∷ rest
-led-some L [] rest e = let z : ◌≡◌ {A = ℕ} 0 1 = cc in absurd (omega arith)
-led-some L (b ∷ s) rest e =
-    let h = chosen-some (eqb b L) s rest e in
-    let k : b ≡ L = eqb-true b L h.0 in
-    let m : s ≡ rest = h.1 in
-    cc
-
-chosen_none : (t : Bool) (s : Bytes) → ◌≡◌ {A = Option Bytes} None (cond t (Some s) None) → t ≡ false
-chosen_none true s e = let z : ◌≡◌ {A = ℕ} 0 1 = cc in absurd (omega arith)
-chosen_none false s e = refl
+pub split-first : (L : ℕ) (s rest : Bytes) → starts L s ≡ true → rest ≡ drop 1 s → s ≡ L ∷ rest
+split-first L [] rest h e = absurd (false≢true h)
+split-first L (b ∷ s) rest h e = let k : b ≡ L = eqb-true b L (and_l (eqb b L) true h) in cc
 
 pub breaks-same : {g h : Bytes → Bool} {s : Bytes} {at : ℕ} → ((x : Bytes) → g x ≡ h x) → Breaks g s at → Breaks h s at
 breaks-same {g} {h} {s} {at} e b =
@@ -43,12 +35,13 @@ breaks-same {g} {h} {s} {at} e b =
       ends = λ lt rest. sym (e _) ∙ b.ends lt rest;
     }
 
+pub checked-same : {g h : Bytes → Bool} (s : Bytes) (r : Result ⊤ ℕ) → ((x : Bytes) → g x ≡ h x) → Checked g s r → Checked h s r
+checked-same s (Ok u) e c = sym (e s) ∙ c
+checked-same s (Err at) e b = breaks-same e b
+
 module _ {L : ℕ} {inner outer : Bytes → Bool} (l : Led L inner outer) where
   outer-led : (rest : Bytes) → outer (L ∷ rest) ≡ inner rest
   outer-led rest = l.some L rest ∙ ap (λ t. t && inner rest) l.first
-
-  pub good-led : (s rest : Bytes) → Some rest ≡ led L s → inner rest ≡ true → outer s ≡ true
-  good-led s rest e h = ap outer (led-some L s rest e) ∙ outer-led rest ∙ h
 
   under : (rest : Bytes) (at : ℕ) → Breaks inner rest at → Breaks outer (L ∷ rest) (suc at)
   under rest at b =
@@ -59,18 +52,22 @@ module _ {L : ℕ} {inner outer : Bytes → Bool} (l : Led L inner outer) where
         ends = λ lt more. ap (λ n. outer (take n (L ∷ rest) ++ more)) (add-one (suc at)) ∙ outer-led _ ∙ ap (λ n. inner (take n rest ++ more)) (sym (add-one at)) ∙ b.ends (omega arith) more;
       }
 
-  pub breaks-led : (s rest : Bytes) (at : ℕ) → Some rest ≡ led L s → Breaks inner rest at → Breaks outer s (at + 1)
-  breaks-led s rest at e b = rw (led-some L s rest e, add-one at) (under rest at b)
+  -- what follows the first byte is good, or has a fault one place later
+  pub checked-led : (s rest : Bytes) (r m : Result ⊤ ℕ) → s ≡ L ∷ rest → Checked inner rest r →
+      MatchResult r (λ u. m ≡ Ok u) (λ at. IsErrAnd m (λ n. n ≡ at + 1)) → Checked outer s m
+  checked-led s rest (Ok u) m e h k = rw (k, e) (outer-led rest ∙ h)
+  checked-led s rest (Err at) (Ok u) e b k = absurd k
+  checked-led s rest (Err at) (Err n) e b k = rw (k, e, add-one at) (under rest at b)
 
-  unled : (s more : Bytes) → None ≡ led L s → 0 < length s → outer (take 1 s ++ more) ≡ false
+  unled : (s more : Bytes) → starts L s ≡ false → 0 < length s → outer (take 1 s ++ more) ≡ false
   unled [] more e lt = absurd (omega arith)
-  unled (b ∷ s) more e lt = l.some b more ∙ ap (λ t. t && inner more) (chosen_none (eqb b L) s e)
+  unled (b ∷ s) more e lt = l.some b more ∙ ap (λ t. t && inner more) (sym (and-true (eqb b L)) ∙ e)
 
-  unled-all : (s : Bytes) → None ≡ led L s → outer s ≡ false
+  unled-all : (s : Bytes) → starts L s ≡ false → outer s ≡ false
   unled-all [] e = l.none
-  unled-all (b ∷ s) e = l.some b s ∙ ap (λ t. t && inner s) (chosen_none (eqb b L) s e)
+  unled-all (b ∷ s) e = l.some b s ∙ ap (λ t. t && inner s) (sym (and-true (eqb b L)) ∙ e)
 
-  pub breaks-first : (s : Bytes) → None ≡ led L s → (x : Bytes) → inner x ≡ true → Breaks outer s 0
+  pub breaks-first : (s : Bytes) → starts L s ≡ false → (x : Bytes) → inner x ≡ true → Breaks outer s 0
   breaks-first s e x h =
       record {
         bad = unled-all s e;
@@ -79,30 +76,24 @@ module _ {L : ℕ} {inner outer : Bytes → Bool} (l : Led L inner outer) where
         ends = λ lt more. unled s more e lt;
       }
 
--- the elements of a path, after its slash
-abbrev pub path_tail : Bytes → Bool
-path_tail rest = all path_element (elements_of (47 ∷ rest))
-
-pub path-led : Led 47 path_tail rooted
-path-led = record { none = refl; some = λ b rest. refl; first = refl }
-
-tail-spells : (x : Bytes) → 0 < length x → path_tail x ≡ spells Path x
+-- a path after its slash
+tail-spells : (x : Bytes) → 0 < length x → after_lead Path x ≡ spells Path x
 tail-spells [] h = absurd (omega arith)
 tail-spells (b ∷ x) h = refl
 
-pub spells-tail : (x : Bytes) → spells Path x ≡ true → path_tail x ≡ true
+spells-tail : (x : Bytes) → spells Path x ≡ true → after_lead Path x ≡ true
 spells-tail [] e = refl
 spells-tail (b ∷ x) e = e
 
-pub tail_none : (x : Bytes) → length x ≡ 0 → path_tail x ≡ true
-tail_none [] e = refl
-tail_none (b ∷ x) e = absurd (omega arith)
+pub tail_none : (a : Alphabet) (x : Bytes) → a ≡ Path → length x ≡ 0 → after_lead a x ≡ true
+tail_none a [] p e = rw p
+tail_none a (b ∷ x) p e = absurd (omega arith)
 
 more-than-none : (at : ℕ) (x more : Bytes) → at < length x → 0 < length (take (at + 1) x ++ more)
 more-than-none at [] more h = absurd (omega arith)
 more-than-none at (b ∷ x) more h = rw add-one (omega arith)
 
-pub breaks-tail : (rest : Bytes) (at : ℕ) → 0 < length rest → Breaks (spells Path) rest at → Breaks path_tail rest at
+breaks-tail : (rest : Bytes) (at : ℕ) → 0 < length rest → Breaks (spells Path) rest at → Breaks (after_lead Path) rest at
 breaks-tail rest at h b =
     record {
       bad = tail-spells rest h ∙ b.bad;
@@ -111,28 +102,52 @@ breaks-tail rest at h b =
       ends = λ lt more. tail-spells (take (at + 1) rest ++ more) (more-than-none at rest more lt) ∙ b.ends lt more;
     }
 
-pub unique-led : Led 58 (several Unique) (good Unique)
-unique-led = record { none = refl; some = λ b rest. refl; first = refl }
+checked-tail : (s : Bytes) (r : Result ⊤ ℕ) → 0 < length s → Checked (spells Path) s r → Checked (after_lead Path) s r
+checked-tail s (Ok u) h e = spells-tail s e
+checked-tail s (Err at) h b = breaks-tail s at h b
+
+pub path-after : (a : Alphabet) (s : Bytes) (r : Result ⊤ ℕ) → a ≡ Path → 0 < length s → Checked (spells a) s r → Checked (after_lead a) s r
+path-after a s r p h e = rw p (checked-tail s r h (rw p at e))
 
 -- a name of one element
 one_piece : (x : Bytes) → pieces (separates Member) x ≡ x ∷ []
 one_piece [] = refl
 one_piece (b ∷ x) = ap (onto b) (one_piece x)
 
-pub member-spells : (x : Bytes) → spells Member x ≡ good Member x
+member-spells : (x : Bytes) → spells Member x ≡ after_lead Member x
 member-spells x = ap (all name_element) (one_piece x) ∙ and-true (name_element x)
 
--- what a slice without its first byte is
-pub led-rest : (b : ℕ) (s : Bytes) → 0 < length s → get_or s 0 0 ≡ b → Some (take (length s - 1) (drop 1 s)) ≡ led b s
-led-rest b [] h e = absurd (omega arith)
-led-rest b (x ∷ s) h e = ap Some (between_to_end (x ∷ s) 1 (length (x ∷ s)) (omega arith)) ∙ sym (ap (λ t. cond t (Some s) None) (eq-eqb x b e))
+pub member-after : (a : Alphabet) → a ≡ Member → (x : Bytes) → spells a x ≡ after_lead a x
+member-after a e x = rw e (member-spells x)
 
-found-member : (s : Bytes) (o : Option ℕ) → MatchOption o (spells Member s ≡ true) (λ at. Breaks (spells Member) s at) → MatchOption o (good Member s ≡ true) (λ at. Breaks (good Member) s at)
-found-member s None e = sym (member-spells s) ∙ e
-found-member s (Some at) b = breaks-same member-spells b
+-- a name of several elements
+pub several-after : (a : Alphabet) → (a ≡ Name) ⊎ (a ≡ WellKnown) ⊎ (a ≡ Unique) → (x : Bytes) → several a x ≡ after_lead a x
+several-after a (inl e) x = rw e
+several-after a (inr (inl e)) x = rw e
+several-after a (inr (inr e)) x = rw e
 
-pub member-found : (a : Alphabet) (s : Bytes) (o : Option ℕ) → a ≡ Member → MatchOption o (spells a s ≡ true) (λ at. Breaks (spells a) s at) → MatchOption o (good a s ≡ true) (λ at. Breaks (good a) s at)
-member-found a s o e h = rw e (found-member s o (rw e at h))
+-- where a byte must come first, and where none must
+pub led-by : (a : Alphabet) (L : ℕ) → Some L ≡ lead a → Led L (after_lead a) (good a)
+led-by Path L e = let k : L ≡ 47 = cc in rw k (record { none = refl; some = λ b rest. refl; first = refl })
+led-by Unique L e = let k : L ≡ 58 = cc in rw k (record { none = refl; some = λ b rest. refl; first = refl })
+led-by Name L e = cc
+led-by Member L e = cc
+led-by WellKnown L e = cc
+
+pub not-led : (a : Alphabet) → None ≡ lead a → (x : Bytes) → after_lead a x ≡ good a x
+not-led Path e x = cc
+not-led Unique e x = cc
+not-led Name e x = refl
+not-led Member e x = refl
+not-led WellKnown e x = refl
+
+-- something good may follow the byte that must come first
+pub some-after : (a : Alphabet) (L : ℕ) → Some L ≡ lead a → (x : Bytes) × (after_lead a x ≡ true)
+some-after Path L e = ([], refl)
+some-after Unique L e = (97 ∷ 46 ∷ 97 ∷ [], refl)
+some-after Name L e = cc
+some-after Member L e = cc
+some-after WellKnown L e = cc
 
 -- a name by its number of bytes and the rest of its rule
 pub valid-parts : (a : Alphabet) (s : Bytes) → valid a s ≡ fits a s && good a s

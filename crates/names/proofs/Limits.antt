@@ -1,89 +1,30 @@
--- Counting the elements of a path and the bytes of each.
-use Rattle.std.proofs.Common.{◌≡◌, ℕ, suc, ◌+◌, ◌-◌, ◌<◌, ◌≤◌, Bool, true, false, cond, ◌&&◌, ltb, leb, List, [], ◌∷◌, length, get_or, take, drop, sym, refl, ap, ◌∙◌, ap₂, add-one, arith, drop-cons, ltb-true}
-use Rattle.std.proofs.lemmas.Bool.{eq-eqb, ne_eqb, le-leb, lt-leb, cond-true, cond-false}
-use Rattle.std.proofs.lemmas.List.{drop_all}
+-- The limits of a path that the server makes.
+use Rattle.std.proofs.Common.{◌≡◌, ℕ, ◌-◌, ◌<◌, ◌≤◌, Bool, true, false, ◌&&◌, leb, List, [], ◌∷◌, length, take, drop, sym, refl, ap, ◌∙◌, arith}
+use Rattle.std.proofs.lemmas.Bool.{le-leb, lt-leb}
 use Rattle.std.proofs.lemmas.Slice.{between_to_end}
-use Rattle.names.specs.Names.{Bytes, all, onto, pieces, slash, elements_of}
+use Rattle.names.specs.Names.{Bytes, all, pieces, slash, elements_of}
 use Rattle.names.specs.Paths.{few_and_short, makeable}
-use Rattle.names.proofs.Parts.{some-pieces}
+use Rattle.std.specs.List.{slice_split, list_all}
+use Rattle.names.proofs.Parts.{pieces-split}
 
--- room for what is left, where there are n elements, with k bytes in the last
-abbrev pub room : ℕ → ℕ → Bytes → Bool
-room n k [] = true
-room n k (b ∷ bs) = cond (slash b) (ltb n 16 && room (n + 1) 0 bs) (ltb k 63 && room n (k + 1) bs)
+all-list : (test : Bytes → Bool) (es : List Bytes) → all test es ≡ list_all test es
+all-list test [] = refl
+all-list test (e ∷ es) = ap (λ t. test e && t) (all-list test es)
 
--- the same of pieces, of which the first goes on from those k bytes
-abbrev fits : ℕ → ℕ → List Bytes → Bool
-fits n k [] = true
-fits n k (e ∷ es) = leb (n + length es) 16 && (leb (k + length e) 63 && all (λ e. leb (length e) 63) es)
+-- the limits of the pieces that `split` gives
+split-fits : (s : Bytes) → leb (length (slice_split slash s)) 16 && list_all (λ e. leb (length e) 63) (slice_split slash s) ≡ few_and_short (pieces slash s)
+split-fits s =
+    ap (λ t. leb (length (slice_split slash s)) 16 && t) (sym (all-list (λ e. leb (length e) 63) (slice_split slash s)))
+    ∙ ap few_and_short (sym (pieces-split slash s))
 
-slash-nums : (n k m e : ℕ) (B : Bool) → k ≤ 63 → leb (n + suc m) 16 && (leb (k + 0) 63 && (leb e 63 && B)) ≡ ltb n 16 && (leb (n + 1 + m) 16 && (leb (0 + e) 63 && B))
-slash-nums n k m e B h = grind arith
+pub few-fit : (s : Bytes) (n : ℕ) (r : Bool) → n ≡ length (slice_split slash s) → n ≤ 16 → r ≡ list_all (λ e. leb (length e) 63) (slice_split slash s) → r ≡ few_and_short (pieces slash s)
+few-fit s n r e h a = a ∙ ap (λ t. t && list_all (λ e. leb (length e) 63) (slice_split slash s)) (sym (le-leb (length (slice_split slash s)) 16 (omega arith))) ∙ split-fits s
 
-byte-nums : (n k m e : ℕ) (B : Bool) → leb (n + m) 16 && (leb (k + suc e) 63 && B) ≡ ltb k 63 && (leb (n + m) 16 && (leb (k + 1 + e) 63 && B))
-byte-nums n k m e B = grind arith
-
-end-nums : (n k : ℕ) → n ≤ 16 → k ≤ 63 → true ≡ leb (n + 0) 16 && (leb (k + 0) 63 && true)
-end-nums n k h l = grind arith
-
-fits_next : (t : Bool) (n k b : ℕ) (ps : List Bytes) → k ≤ 63 → 1 ≤ length ps →
-    fits n k (cond t ([] ∷ ps) (onto b ps)) ≡ cond t (ltb n 16 && fits (n + 1) 0 ps) (ltb k 63 && fits n (k + 1) ps)
-fits_next t n k b [] h l = absurd (omega arith)
-fits_next true n k b (e ∷ es) h l = slash-nums n k (length es) (length e) (all (λ e. leb (length e) 63) es) h
-fits_next false n k b (e ∷ es) h l = byte-nums n k (length es) (length e) (all (λ e. leb (length e) 63) es)
-
-guarded : (t x y : Bool) → (t ≡ true → x ≡ y) → t && x ≡ t && y
-guarded true x y h = h refl
-guarded false x y h = refl
-
-room_fits : (n k : ℕ) (bs : Bytes) → n ≤ 16 → k ≤ 63 → room n k bs ≡ fits n k (pieces slash bs)
-room_fits n k [] h l = end-nums n k h l
-room_fits n k (b ∷ bs) h l =
-    ap₂ (λ x y. cond (slash b) x y)
-    (guarded (ltb n 16) _ _ (λ t. room_fits (n + 1) 0 bs (omega (arith, ltb-true)) (omega arith)))
-    (guarded (ltb k 63) _ _ (λ t. room_fits n (k + 1) bs h (omega (arith, ltb-true))))
-    ∙ sym (fits_next (slash b) n k b (pieces slash bs) l (some-pieces slash bs))
-
-first-nums : (m e : ℕ) (B : Bool) → leb (1 + m) 16 && (leb (0 + e) 63 && B) ≡ leb (suc m) 16 && (leb e 63 && B)
-first-nums m e B = grind arith
-
-first_fits : (ps : List Bytes) → 1 ≤ length ps → fits 1 0 ps ≡ few_and_short ps
-first_fits [] h = absurd (omega arith)
-first_fits (e ∷ es) h = first-nums (length es) (length e) (all (λ e. leb (length e) 63) es)
-
--- what the loop keeps
-pub record Counted (s : Bytes) (n k i : ℕ) : Type 0 where
-  pub so : room 1 0 s ≡ room n k (drop i s)
-  pub few : n ≤ 16
-  pub short : k ≤ 63
-
-pub counted-first : (s : Bytes) → Counted s 1 0 0
-counted-first s = record { so = refl; few = omega arith; short = omega arith }
-
-whole : (s : Bytes) → room 1 0 s ≡ few_and_short (pieces slash s)
-whole s = room_fits 1 0 s (omega arith) (omega arith) ∙ first_fits (pieces slash s) (some-pieces slash s)
-
-turned : (s : Bytes) (n k i : ℕ) → i < length s → room n k (drop i s) ≡ cond (slash (get_or s i 0)) (ltb n 16 && room (n + 1) 0 (drop (i + 1) s)) (ltb k 63 && room n (k + 1) (drop (i + 1) s))
-turned s n k i h = rw (add-one i, drop-cons s i 0)
-
-pub counted-slash : {s : Bytes} {n k i : ℕ} → Counted s n k i → i < length s → get_or s i 0 ≡ 47 → n < 16 → Counted s (n + 1) 0 (i + 1)
-counted-slash {s} {n} {k} {i} c h e l =
-    record { so = c.so ∙ turned s n k i h ∙ cond-true _ _ _ (eq-eqb _ _ e) ∙ ap (λ t. t && room (n + 1) 0 (drop (i + 1) s)) (le-leb (suc n) 16 (omega arith)); few = omega arith; short = omega arith }
-
-pub counted-byte : {s : Bytes} {n k i : ℕ} → Counted s n k i → i < length s → (get_or s i 0 ≡ 47 → ⊥) → k < 63 → Counted s n (k + 1) (i + 1)
-counted-byte {s} {n} {k} {i} c h e l =
-    record { so = c.so ∙ turned s n k i h ∙ cond-false _ _ _ (ne_eqb _ _ e) ∙ ap (λ t. t && room n (k + 1) (drop (i + 1) s)) (le-leb (suc k) 63 (omega arith)); few = c.few; short = omega arith }
-
-pub too_many : {s : Bytes} {n k i : ℕ} → Counted s n k i → i < length s → get_or s i 0 ≡ 47 → 16 ≤ n → false ≡ few_and_short (pieces slash s)
-too_many {s} {n} {k} {i} c h e l =
-    sym (sym (whole s) ∙ c.so ∙ turned s n k i h ∙ cond-true _ _ _ (eq-eqb _ _ e) ∙ ap (λ t. t && room (n + 1) 0 (drop (i + 1) s)) (lt-leb (suc n) 16 (omega arith)))
-
-pub too_long : {s : Bytes} {n k i : ℕ} → Counted s n k i → i < length s → (get_or s i 0 ≡ 47 → ⊥) → 63 ≤ k → false ≡ few_and_short (pieces slash s)
-too_long {s} {n} {k} {i} c h e l =
-    sym (sym (whole s) ∙ c.so ∙ turned s n k i h ∙ cond-false _ _ _ (ne_eqb _ _ e) ∙ ap (λ t. t && room n (k + 1) (drop (i + 1) s)) (lt-leb (suc k) 63 (omega arith)))
-
-pub all_fit : {s : Bytes} {n k i : ℕ} → Counted s n k i → length s ≤ i → true ≡ few_and_short (pieces slash s)
-all_fit {s} {n} {k} {i} c h = sym (sym (whole s) ∙ c.so ∙ ap (room n k) (drop_all i s h))
+pub many-fit : (s : Bytes) (n : ℕ) → n ≡ length (slice_split slash s) → 16 < n → leb n 16 ≡ few_and_short (pieces slash s)
+many-fit s n e h =
+    lt-leb n 16 h
+    ∙ ap (λ t. t && list_all (λ e. leb (length e) 63) (slice_split slash s)) (sym (lt-leb (length (slice_split slash s)) 16 (omega arith)))
+    ∙ split-fits s
 
 -- a path by its length and the elements after its first byte
 pub too-big : (s : Bytes) → 255 < length s → false ≡ makeable s

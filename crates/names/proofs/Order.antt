@@ -1,11 +1,20 @@
 -- The order of paths by bytes is that by elements, and goes through the tree parent first.
-use Rattle.std.proofs.Common.{◌≡◌, ℕ, Bool, true, false, ◌&&◌, ◌||◌, eqb, ltb, List, [], ◌∷◌, ◌++◌, sym, refl, ◌∙◌, ap₂, ⊎_elim, true≢false}
+use Rattle.std.proofs.Common.{◌≡◌, ℕ, Bool, true, false, ◌&&◌, ◌||◌, eqb, ltb, List, [], ◌∷◌, ◌++◌, Some, sym, refl, ◌∙◌, ap₂, arith, ⊎_elim, true≢false}
 use mathlib.Core.Bool.{false≢true}
+use Rattle.std.proofs.lemmas.Bool.Decides.{nat_tests}
+use Rattle.std.proofs.lemmas.Cmp.{same_from_slice_cmp_tested}
+use Rattle.std.specs.Cmp.Lexicographic.{slice_partial_cmp}
+use Rattle.std.specs.Ordering.{nat_cmp, is_lt, is_some_and}
 use Rattle.std.specs.Str.{bytes_eq}
 use Rattle.names.specs.Names.{Bytes, all, word, path_element, elements_of, valid_path}
 use Rattle.names.specs.Paths.{joined, spelled, beneath, bytes_before, path_before, PreOrder}
 use Rattle.names.proofs.Bools.{and_l, and_r, and_i, or_cases, or_l, or_r, same-eq}
 use Rattle.names.proofs.Spelled.{word-high, word-not-slash, word-not-low, words, path-elements, path-spelled}
+
+-- `<` of slices is the order of bytes
+pub less-before : (a b : Bytes) (r : Bool) → r ≡ is_some_and is_lt (slice_partial_cmp (λ x y. Some (nat_cmp x y)) a b) → r ≡ bytes_before a b
+unfolding bytes_before
+less-before = same_from_slice_cmp_tested nat_cmp is_lt bytes_before refl (λ _ _. refl) (λ _ _. refl) (λ x y xs ys o h. grind (arith, nat_tests))
 
 or-assoc-and : (a e n s p : Bool) → a || (e && (n || (s && p))) ≡ (a || (e && n)) || ((e && s) && p)
 or-assoc-and true e n s p = refl

@@ -1,43 +1,47 @@
 -- How many elements there are.
-use Rattle.std.proofs.Common.{◌≡◌, ℕ, zero, suc, ◌+◌, ◌<◌, ◌≤◌, Bool, true, false, cond, ◌&&◌, leb, List, [], ◌∷◌, ◌++◌, length, get_or, take, Some, None, Option, sym, refl, ap, ◌∙◌, append_assoc, arith}
+use Rattle.std.proofs.Common.{◌≡◌, ℕ, ◌+◌, Bool, true, false, cond, ◌&&◌, ◌||◌, leb, List, [], ◌∷◌, ◌++◌, length, take, Some, None, Option, sym, refl, ap, ◌∙◌, append_assoc, arith}
 use mathlib.Core.Bool.{false≢true}
 use lib.Seq.{take-length}
-use Rattle.std.proofs.lemmas.Bool.{le-leb}
+use Rattle.std.specs.List.{slice_split, onto_first, count_by, list_any}
+use Rattle.std.proofs.lemmas.List.Splits.{length-slice_split}
+use Rattle.std.proofs.lemmas.List.Folds.{list_any-append}
+use Rattle.std.proofs.lemmas.List.Sums.{sum_by-cons}
 use Rattle.names.specs.declared.grammar.Alphabet.{Alphabet}
 use Rattle.names.specs.Names.{Bytes, onto, pieces}
 use Rattle.names.specs.Faults.{Breaks, separates, spells, several}
 use Rattle.names.specs.Scan.{step}
-use Rattle.names.proofs.Bools.{and-false}
+use Rattle.names.proofs.Bools.{and_i, or_l, or_r, and-false}
 use Rattle.names.proofs.Scans.{run, accepts, joined-run, spells-run, begun, run_end}
 
+onto-first : (b : ℕ) (ps : List Bytes) → onto b ps ≡ onto_first b ps
+onto-first b [] = refl
+onto-first b (p ∷ ps) = refl
+
+one-more : (t : Bool) (n : ℕ) → t || leb 1 n ≡ leb 1 (cond t 1 0 + n)
+one-more true n = grind arith
+one-more false n = grind arith
+
+two-of : (n : ℕ) → leb 1 n ≡ leb 2 (n + 1)
+two-of n = grind arith
+
 module _ (sep : ℕ → Bool) where
-  onto-long : (b : ℕ) (ps : List Bytes) → 1 ≤ length ps → length (onto b ps) ≡ length ps
-  onto-long b [] h = absurd (omega arith)
-  onto-long b (p ∷ ps) h = refl
+  -- the pieces are those of `split`
+  pub pieces-split : (bs : Bytes) → pieces sep bs ≡ slice_split sep bs
+  pieces-split [] = refl
+  pieces-split (b ∷ bs) =
+      ap (λ (ps : List Bytes). cond (sep b) ([] ∷ ps) (onto b ps)) (pieces-split bs)
+      ∙ ap (cond (sep b) ([] ∷ slice_split sep bs)) (onto-first b (slice_split sep bs))
 
-  chosen-long : (t : Bool) (b : ℕ) (ps : List Bytes) → 1 ≤ length ps → length (cond t ([] ∷ ps) (onto b ps)) ≡ cond t 1 0 + length ps
-  chosen-long true b ps h = omega arith
-  chosen-long false b ps h = omega (arith, onto-long b ps h)
+  any-count : (bs : Bytes) → list_any sep bs ≡ leb 1 (count_by sep bs)
+  any-count [] = refl
+  any-count (b ∷ bs) = ap (λ t. sep b || t) (any-count bs) ∙ one-more (sep b) (count_by sep bs) ∙ ap (leb 1) (sym (sum_by-cons (λ x. cond (sep x) 1 0) b bs))
 
-  pub some-pieces : (bs : Bytes) → 1 ≤ length (pieces sep bs)
-  some-pieces [] = omega arith
-  some-pieces (b ∷ bs) = omega (arith, chosen-long (sep b) b (pieces sep bs) (some-pieces bs), some-pieces bs)
+  -- there are several where some byte separates
+  pub any-several : (bs : Bytes) → list_any sep bs ≡ leb 2 (length (pieces sep bs))
+  any-several bs = any-count bs ∙ two-of (count_by sep bs) ∙ ap (leb 2) (sym (ap length (pieces-split bs) ∙ length-slice_split sep bs))
 
-  -- a separator parts what is before it from what is after
-  pub parted : (p : Bytes) (b : ℕ) (q : Bytes) → sep b ≡ true → 2 ≤ length (pieces sep (p ++ (b ∷ q)))
-  parted [] b q e = rw e (omega (arith, some-pieces q))
-  parted (x ∷ p) b q e = omega (arith, chosen-long (sep x) x (pieces sep (p ++ (b ∷ q))) (some-pieces (p ++ (b ∷ q))), parted p b q e)
-
-  pub two : (bs : Bytes) (k : ℕ) → k < length bs → sep (get_or bs k 0) ≡ true → 2 ≤ length (pieces sep bs)
-  two [] k h e = absurd (omega arith)
-  two (b ∷ bs) zero h e = parted [] b bs e
-  two (b ∷ bs) (suc k) h e = omega (arith, chosen-long (sep b) b (pieces sep bs) (some-pieces bs), two bs k (omega arith) e)
-
-  pub one : (bs : Bytes) → ((k : ℕ) → k < length bs → sep (get_or bs k 0) ≡ false) → length (pieces sep bs) ≡ 1
-  one [] h = refl
-  one (b ∷ bs) h =
-      let e : sep b ≡ false = h 0 (omega arith) in
-      chosen-long (sep b) b (pieces sep bs) (some-pieces bs) ∙ rw e (omega (arith, one bs (λ k lt. h (suc k) (omega arith))))
+  parted : (p : Bytes) (b : ℕ) (q : Bytes) → sep b ≡ true → leb 2 (length (pieces sep (p ++ (b ∷ q)))) ≡ true
+  parted p b q e = sym (any-several (p ++ (b ∷ q))) ∙ list_any-append sep p (b ∷ q) ∙ or_r (list_any sep p) (sep b || list_any sep q) (or_l (sep b) (list_any sep q) e)
 
 module _ (a : Alphabet) where
   accepted : (o : Option Bool) → accepts a o ≡ true → o ≡ Some false
@@ -55,7 +59,7 @@ module _ (a : Alphabet) where
   spells-more p d e =
       let s : run a (Some true) p ≡ Some false = accepted (run a (Some true) p) (sym (spells-run a p) ∙ e) in
       let g : spells a (p ++ (46 ∷ 97 ∷ [])) ≡ true = joined-run a p s (46 ∷ 97 ∷ []) ∙ ap (accepts a) (gone-on (separates a 46) _ d) in
-      rw (le-leb 2 _ (parted (separates a) p 46 (97 ∷ []) d)) g
+      and_i _ _ (parted (separates a) p 46 (97 ∷ []) d) g
 
   fewer : (bs : Bytes) → spells a bs ≡ false → several a bs ≡ false
   fewer bs e = ap (λ t. leb 2 (length (pieces (separates a) bs)) && t) e ∙ and-false (leb 2 (length (pieces (separates a) bs)))

@@ -1,38 +1,50 @@
 -- The last slash of a path.
-use Rattle.std.proofs.Common.{◌≡◌, ℕ, zero, suc, ◌+◌, ◌<◌, ◌≤◌, Bool, true, false, cond, [], ◌∷◌, ◌++◌, length, get_or, take, drop, Some, None, Option, sym, refl, ap, ◌∙◌, append-nil, add-one, arith, drop-cons}
+use Rattle.std.proofs.Common.{◌≡◌, ◌≢◌, ℕ, zero, suc, ◌+◌, ◌<◌, Bool, true, false, cond, [], ◌∷◌, ◌++◌, length, get_or, take, drop, Some, None, Option, sym, refl, ap, ◌∙◌, append-nil, add-one, arith, drop-cons, MatchOption}
 use Rattle.std.proofs.lemmas.Bool.{eq-eqb, ne_eqb}
-use Rattle.std.proofs.lemmas.List.{drop_all}
 use Rattle.std.specs.Str.{bytes_eq}
 use Rattle.names.specs.Names.{Bytes, elements_of, valid_path}
 use Rattle.names.specs.Paths.{sooner, before_last, later, after_last, NoSlash, LastSlash, or_root, parent_bytes, parent_of, last_bytes, last_of}
 use Rattle.names.proofs.Scans.{take_rest}
 use Rattle.names.proofs.Spelled.{before-further, after-further, parent-elements, last-elements}
 
-pub none_left : (s : Bytes) (i : ℕ) → length s ≤ i → NoSlash (drop i s)
+no-bytes : NoSlash []
 unfolding before_last after_last
-none_left s i h = rw (drop_all i s h) (record { ahead = refl; behind = refl })
+no-bytes = record { ahead = refl; behind = refl }
 
 other-first : (b : ℕ) (s : Bytes) → (b ≡ 47 → ⊥) → NoSlash s → NoSlash (b ∷ s)
 unfolding before_last sooner after_last later
 other-first b s ne n = record { ahead = rw (n.ahead, ne_eqb b 47 ne); behind = rw (n.behind, ne_eqb b 47 ne) }
 
--- one byte more from the end
-pub none_more : (s : Bytes) (i : ℕ) → i < length s → (get_or s i 0 ≡ 47 → ⊥) → NoSlash (drop (i + 1) s) → NoSlash (drop i s)
-none_more s i h ne n = rw (drop-cons s i 0) (other-first (get_or s i 0) (drop (suc i) s) ne (rw add-one at n))
+none-in : (s : Bytes) → ((k : ℕ) → k < length s → get_or s k 0 ≢ 47) → NoSlash s
+none-in [] h = no-bytes
+none-in (b ∷ s) h = other-first b s (h 0 (omega arith)) (none-in s (λ k lt. h (suc k) (omega arith)))
+
+none-after : (s : Bytes) (i : ℕ) → ((k : ℕ) → i < k → k < length s → get_or s k 0 ≢ 47) → NoSlash (drop (suc i) s)
+none-after [] i h = no-bytes
+none-after (b ∷ s) zero h = none-in s (λ k lt. h (suc k) (omega arith) (omega arith))
+none-after (b ∷ s) (suc i) h = none-after s i (λ k lt le. h (suc k) (omega arith) (omega arith))
 
 slash-first : (b : ℕ) (s : Bytes) → b ≡ 47 → NoSlash s → (before_last (b ∷ s) ≡ Some []) × (after_last (b ∷ s) ≡ Some s)
 unfolding before_last sooner after_last later
 slash-first b s e n = (rw (n.ahead, eq-eqb b 47 e), rw (n.behind, eq-eqb b 47 e))
 
-pub last_found : (s : Bytes) (i : ℕ) → i < length s → get_or s i 0 ≡ 47 → NoSlash (drop (i + 1) s) → LastSlash s i
+last_found : (s : Bytes) (i : ℕ) → i < length s → get_or s i 0 ≡ 47 → NoSlash (drop (suc i) s) → LastSlash s i
 last_found s i h e n =
-    let here = slash-first (get_or s i 0) (drop (suc i) s) e (rw add-one at n) in
+    let here = slash-first (get_or s i 0) (drop (suc i) s) e n in
     let split : take i s ++ (get_or s i 0 ∷ drop (suc i) s) ≡ s = ap (λ (u : Bytes). take i s ++ u) (sym (drop-cons s i 0 h)) ∙ take_rest i s in
     record {
       within = h;
       ahead = ap before_last (sym split) ∙ before-further (take i s) (get_or s i 0 ∷ drop (suc i) s) [] here.0 ∙ ap Some (append-nil (take i s));
       behind = ap after_last (sym split) ∙ after-further (take i s) (get_or s i 0 ∷ drop (suc i) s) (drop (suc i) s) here.1 ∙ ap (λ n. Some (drop n s)) (sym (add-one i));
     }
+
+-- the last slash by the bytes at each place, as `rposition` finds it
+abbrev pub Rightmost : Bytes → Option ℕ → Type 0
+Rightmost s r = MatchOption r ((k : ℕ) → k < length s → get_or s k 0 ≢ 47) (λ i. (i < length s) × (get_or s i 0 ≡ 47) × ((k : ℕ) → i < k → k < length s → get_or s k 0 ≢ 47))
+
+pub rightmost-last : (s : Bytes) (r : Option ℕ) → Rightmost s r → MatchOption r (NoSlash s) (λ at. LastSlash s at)
+rightmost-last s None h = none-in s h
+rightmost-last s (Some i) h = last_found s i h.0 h.1 (none-after s i h.2)
 
 -- the parent and the last element, by the last slash; `r` is what is told
 pub record ParentTold (p : Bytes) (r : Option Bytes) : Type 0 where

@@ -1,11 +1,11 @@
 -- Where bytes stop being the beginning of a name.
-use Rattle.std.specs.Prelude.{◌≡◌, ℕ, ◌+◌, ◌<◌, ◌≤◌, Bool, true, false, cond, ◌&&◌, ◌||◌, ◌++◌, length, take, Some, None, Option, ◌==◌, nat_le, nat_lt, slice_index}
+use Rattle.std.specs.Prelude.{◌≡◌, ℕ, ◌+◌, ◌<◌, ◌≤◌, Bool, true, false, cond, ◌&&◌, ◌||◌, ◌∷◌, ◌++◌, length, take, Some, None, Option, ◌==◌, nat_le, nat_lt, slice_index, ⊤, Result, MatchResult}
 use Rattle.names.specs.declared.grammar.Alphabet.{Alphabet}
 use Rattle.names.specs.declared.grammar.Alphabet.TheVariants.{Path, Name, Member, WellKnown, Unique}
 use Rattle.names.specs.declared.grammar.Reason.{Reason}
 use Rattle.names.specs.declared.grammar.Reason.TheVariants.{TooLong, Unfinished, Expected, EmptyElement, LeadingDigit, Forbidden}
 use Rattle.names.specs.declared.grammar.Invalid.{Invalid}
-use Rattle.names.specs.Names.{Bytes, all, pieces, element, slash, dot, letter, word, digit, hyphen, short, dotted, coloned, rooted, name_element, bus_element, unique_element}
+use Rattle.names.specs.Names.{Bytes, all, pieces, elements_of, element, path_element, slash, dot, letter, word, digit, hyphen, short, dotted, coloned, rooted, name_element, bus_element, unique_element}
 
 -- The bytes s are not good, and `at` is the place of the fault: the bytes before it begin something good,
 -- and with the one that stands there they begin nothing good. At the end of s, only more bytes are wanting.
@@ -14,6 +14,10 @@ pub record Breaks (good : Bytes → Bool) (s : Bytes) (at : ℕ) : Type 0 where
   pub within : at ≤ length s
   pub begins : (rest : Bytes) × (good (take at s ++ rest) ≡ true)
   pub ends : at < length s → (rest : Bytes) → good (take (at + 1) s ++ rest) ≡ false
+
+-- Either bytes are good, or the place of the fault is told.
+abbrev pub Checked : (Bytes → Bool) → Bytes → Result ⊤ ℕ → Type 0
+Checked good s r = MatchResult r (λ _. good s ≡ true) (λ at. Breaks good s at)
 
 -- the bytes that separate elements, begin one, and go on in one
 abbrev pub separates : Alphabet → ℕ → Bool
@@ -52,6 +56,14 @@ good Name = dotted name_element
 good Member = name_element
 good WellKnown = dotted bus_element
 good Unique = coloned unique_element
+
+-- the same after the byte that must come first
+abbrev pub after_lead : Alphabet → Bytes → Bool
+after_lead Path bs = all path_element (elements_of (47 ∷ bs))
+after_lead Name bs = dotted name_element bs
+after_lead Member bs = name_element bs
+after_lead WellKnown bs = dotted bus_element bs
+after_lead Unique bs = dotted unique_element bs
 
 -- a path may be of any length, a name not
 abbrev pub fits : Alphabet → Bytes → Bool

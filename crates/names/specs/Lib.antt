@@ -3,4 +3,5 @@ pub mod Faults
 pub mod Scan
 pub mod Paths
 pub mod Standard
+pub mod Kinds
 pub mod Buses

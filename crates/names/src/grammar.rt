@@ -1,8 +1,10 @@
-ghost use Rattle.std.specs.Prelude.{◌≡◌, true, length, is_ok, IfErr, MatchOption, nat_le};
-ghost use Rattle.std.specs.Option.{option_map};
-ghost use Rattle.names.specs.Names.{letter, digit, word, pieces, valid};
-ghost use Rattle.names.specs.Scan.{step, led};
-ghost use Rattle.names.specs.Faults.{Breaks, separates, opens, goes_on, spells, several, good, fits, reason_at, Refusal};
+ghost use Rattle.std.specs.Prelude.{◌≡◌, true, length, is_ok, IfErr, nat_le};
+ghost use Rattle.names.specs.Names.{letter, word, pieces, valid};
+ghost use Rattle.names.specs.Scan.{step};
+ghost use Rattle.names.specs.Faults.{Checked, lead, separates, opens, goes_on, spells, several, after_lead, good, fits, reason_at, Refusal};
+
+use std::error::Error;
+use std::fmt;
 
 // What the elements of a kind of name are made of, and what separates them.
 #[derive(Clone, Copy)]
@@ -38,25 +40,33 @@ pub struct Invalid {
     pub why: Reason,
 }
 
+// No name has more bytes, but a path may.
+const MAX_NAME: usize = 255;
+
 fn is_letter(b: u8) -> bool
     ensures { result ≡ letter b }
 {
-    matches!(b, b'A'..=b'Z' | b'a'..=b'z' | b'_')
-}
-
-fn is_digit(b: u8) -> bool
-    ensures { result ≡ digit b }
-{
-    matches!(b, b'0'..=b'9')
+    b.is_ascii_alphabetic() || b == b'_'
 }
 
 fn is_word(b: u8) -> bool
     ensures { result ≡ word b }
 {
-    is_letter(b) || is_digit(b)
+    is_letter(b) || b.is_ascii_digit()
 }
 
 impl Alphabet {
+    // The byte that must come first.
+    fn lead(self) -> Option<u8>
+        ensures { result ≡ lead self }
+    {
+        match self {
+            Alphabet::Path => Some(b'/'),
+            Alphabet::Unique => Some(b':'),
+            Alphabet::Name | Alphabet::Member | Alphabet::WellKnown => None,
+        }
+    }
+
     fn separates(self, b: u8) -> bool
         ensures { result ≡ separates self b }
     {
@@ -106,88 +116,78 @@ impl Alphabet {
         }
     }
 
-    // The place of the first byte that makes these no elements; none where they are.
-    fn fault(self, s: &[u8]) -> Option<usize>
-        ensures { MatchOption result (spells self s.now ≡ true) (λ at. Breaks (spells self) s.now at) }
+    // Refuses what is more than elements, with the place of the first byte that makes it so.
+    fn check_elements(self, s: &[u8]) -> Result<(), usize>
+        ensures { Checked (spells self) s.now result }
     {
         let mut fresh = true;
         for (i, b) in s.iter().enumerate() {
-            let Some(next) = self.step(fresh, *b) else {
-                return Some(i);
-            };
-            fresh = next;
+            fresh = self.step(fresh, *b).ok_or(i)?;
         }
-        if fresh { Some(s.len()) } else { None }
+        if fresh { Err(s.len()) } else { Ok(()) }
     }
 
     // Whether there are several elements.
     fn parts(self, s: &[u8]) -> bool
         ensures { result ≡ nat_le 2 (length (pieces (separates self) s.now)) }
     {
-        for b in s {
-            if self.separates(*b) {
-                return true;
-            }
-        }
-        false
+        s.iter().any(|b| self.separates(*b))
     }
 
-    // As `fault`, where dots separate and one element is too few.
-    fn several_fault(self, s: &[u8]) -> Option<usize>
+    // As `check_elements`, where dots separate and one element is too few.
+    fn check_several(self, s: &[u8]) -> Result<(), usize>
         requires { separates self 46 ≡ true }
-        ensures { MatchOption result (several self s.now ≡ true) (λ at. Breaks (several self) s.now at) }
+        ensures { Checked (several self) s.now result }
     {
-        match self.fault(s) {
-            Some(at) => Some(at),
-            None => { if self.parts(s) { None } else { Some(s.len()) } }
-        }
+        self.check_elements(s)?;
+        if self.parts(s) { Ok(()) } else { Err(s.len()) }
     }
 
-    // The place of the first byte that makes this no name of its kind, whatever its length.
-    fn flaw(self, s: &[u8]) -> Option<usize>
-        ensures { MatchOption result (good self s.now ≡ true) (λ at. Breaks (good self) s.now at) }
+    // As `check_form`, after the byte that must come first.
+    fn check_after_lead(self, s: &[u8]) -> Result<(), usize>
+        ensures { Checked (after_lead self) s.now result }
     {
         match self {
-            Alphabet::Path => path_flaw(s),
-            Alphabet::Unique => unique_flaw(s),
-            Alphabet::Member => self.fault(s),
-            Alphabet::Name | Alphabet::WellKnown => self.several_fault(s),
+            Alphabet::Path if s.is_empty() => Ok(()),
+            Alphabet::Path => self.check_elements(s),
+            Alphabet::Member => self.check_elements(s),
+            Alphabet::Name | Alphabet::WellKnown | Alphabet::Unique => self.check_several(s),
         }
+    }
+
+    // Refuses what is no name of its kind, whatever its length, with the place of the first byte that makes it none.
+    fn check_form(self, s: &[u8]) -> Result<(), usize>
+        ensures { Checked (good self) s.now result }
+    {
+        let Some(first) = self.lead() else {
+            return self.check_after_lead(s);
+        };
+        let rest = s.strip_prefix(&[first]).ok_or(0usize)?;
+        self.check_after_lead(rest).map_err(|at| at + 1)
     }
 
     // What a fault at this place is called.
     fn reason(self, s: &[u8], place: usize) -> Reason
         ensures { result ≡ reason_at self s.now place }
     {
-        if place == 0 {
-            match self {
-                Alphabet::Path => return Reason::Expected(b'/'),
-                Alphabet::Unique => return Reason::Expected(b':'),
-                _ => {}
-            }
+        if let (0, Some(first)) = (place, self.lead()) {
+            return Reason::Expected(first);
         }
-        if place >= s.len() {
-            return Reason::Unfinished;
-        }
-        let b = s[place];
-        if self.separates(b) {
-            Reason::EmptyElement
-        } else if is_digit(b) {
-            Reason::LeadingDigit
-        } else {
-            Reason::Forbidden(b)
+        match s.get(place) {
+            None => Reason::Unfinished,
+            Some(b) if self.separates(*b) => Reason::EmptyElement,
+            Some(b) if b.is_ascii_digit() => Reason::LeadingDigit,
+            Some(b) => Reason::Forbidden(*b),
         }
     }
-}
 
-impl Alphabet {
     // Whether there are not too many bytes.
     fn fits(self, s: &[u8]) -> bool
         ensures { result ≡ fits self s.now }
     {
         match self {
             Alphabet::Path => true,
-            _ => s.len() <= 255,
+            _ => s.len() <= MAX_NAME,
         }
     }
 
@@ -198,55 +198,34 @@ impl Alphabet {
     {
         if !self.fits(s) {
             return Err(Invalid {
-                place: 255,
+                place: MAX_NAME,
                 why: Reason::TooLong,
             });
         }
-        match self.flaw(s) {
-            None => Ok(()),
-            Some(place) => Err(Invalid {
-                place,
-                why: self.reason(s, place),
-            }),
+        self.check_form(s).map_err(|place| Invalid {
+            place,
+            why: self.reason(s, place),
+        })
+    }
+}
+
+impl fmt::Display for Reason {
+    fn fmt<W: fmt::Write>(&self, f: &mut fmt::Formatter<W>) -> fmt::Result {
+        match self {
+            Reason::TooLong => write!(f, "a name has at most {MAX_NAME} bytes"),
+            Reason::Unfinished => write!(f, "it ends where more must follow"),
+            Reason::Expected(b) => write!(f, "it must begin with '{}'", *b as char),
+            Reason::EmptyElement => write!(f, "an element is empty"),
+            Reason::LeadingDigit => write!(f, "an element may not begin with a digit"),
+            Reason::Forbidden(b) => write!(f, "byte {b:#04x} may not stand here"),
         }
     }
 }
 
-// What follows the first byte, if that is `b`.
-fn after(s: &[u8], b: u8) -> Option<&[u8]>
-    ensures { option_map (λ x. x.now) result ≡ led b s.now }
-{
-    let [first, rest @ ..] = s else {
-        return None;
-    };
-    if *first == b { Some(rest) } else { None }
-}
-
-// A slash, and elements between slashes.
-fn path_flaw(s: &[u8]) -> Option<usize>
-    ensures { MatchOption result (good Alphabet.Path s.now ≡ true) (λ at. Breaks (good Alphabet.Path) s.now at) }
-{
-    let Some(rest) = after(s, b'/') else {
-        return Some(0);
-    };
-    if rest.is_empty() {
-        return None;
-    }
-    match Alphabet::Path.fault(rest) {
-        Some(at) => Some(at + 1),
-        None => None,
+impl fmt::Display for Invalid {
+    fn fmt<W: fmt::Write>(&self, f: &mut fmt::Formatter<W>) -> fmt::Result {
+        write!(f, "byte {}: {}", self.place, self.why)
     }
 }
 
-// A colon, and elements between dots.
-fn unique_flaw(s: &[u8]) -> Option<usize>
-    ensures { MatchOption result (good Alphabet.Unique s.now ≡ true) (λ at. Breaks (good Alphabet.Unique) s.now at) }
-{
-    let Some(rest) = after(s, b':') else {
-        return Some(0);
-    };
-    match Alphabet::Unique.several_fault(rest) {
-        Some(at) => Some(at + 1),
-        None => None,
-    }
-}
+impl Error for Invalid {}

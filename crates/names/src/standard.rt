@@ -1,11 +1,10 @@
 ghost use Rattle.std.specs.Prelude.{◌≡◌};
+ghost use Rattle.std.specs.Result.{result_ok};
 ghost use Rattle.std.specs.Str.{bytes_eq};
 ghost use Rattle.names.specs.Standard.{standard_name, standard_of};
 
-use super::same;
-
 // The standard interfaces.
-#[derive(Clone, Copy, PartialEq, Eq)]
+#[derive(Clone, Copy, PartialEq, Eq, Debug)]
 pub enum Standard {
     Introspectable,
     ObjectManager,
@@ -13,7 +12,19 @@ pub enum Standard {
     Properties,
 }
 
+// A name that no standard interface has.
+#[derive(Clone, Copy, PartialEq, Eq, Debug)]
+pub struct NotStandard;
+
 impl Standard {
+    const ALL: [Standard; 4] = [
+        Standard::Introspectable,
+        Standard::ObjectManager,
+        Standard::Peer,
+        Standard::Properties,
+    ];
+
+    #[tactic(auto, unfolding(crate::specs::Standard::standard_name))]
     pub fn name(self) -> &'static [u8]
         ensures { result.now ≡ standard_name self }
     {
@@ -28,23 +39,19 @@ impl Standard {
     pub fn is_named(self, name: &[u8]) -> bool
         ensures { result ≡ bytes_eq name.now (standard_name self) }
     {
-        same(name, self.name())
+        name == self.name()
     }
+}
 
-    // The standard interface of this name, if there is one.
-    pub fn of(name: &[u8]) -> Option<Standard>
-        ensures { result ≡ standard_of name.now }
-    {
-        if Standard::Introspectable.is_named(name) {
-            Some(Standard::Introspectable)
-        } else if Standard::ObjectManager.is_named(name) {
-            Some(Standard::ObjectManager)
-        } else if Standard::Peer.is_named(name) {
-            Some(Standard::Peer)
-        } else if Standard::Properties.is_named(name) {
-            Some(Standard::Properties)
-        } else {
-            None
-        }
+impl TryFrom<&[u8]> for Standard {
+    type Error = NotStandard;
+
+    ghost try_from_gives = { λ name r. result_ok r ≡ standard_of name.now };
+
+    fn try_from(name: &[u8]) -> Result<Standard, NotStandard> {
+        Standard::ALL
+            .into_iter()
+            .find(|kind| kind.is_named(name))
+            .ok_or(NotStandard)
     }
 }

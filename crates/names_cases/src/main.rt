@@ -3,6 +3,8 @@
 // many there were.
 #![tactic(auto)]
 
+ghost use Rattle.std.specs.Prelude.{◌<◌, length, IfSome};
+
 use names::grammar::Invalid;
 use names::object_path::ObjectPath;
 use names::types::{BusName, ErrorName, InterfaceName, MemberName, UniqueName, WellKnownName};
@@ -17,52 +19,53 @@ fn digit(b: u8) -> Option<u8> {
     }
 }
 
+// The byte that \xNN stands for at the front of a text, and what follows it.
+fn split_escape(text: &[u8]) -> Option<(u8, &[u8])>
+    ensures { IfSome result (λ p. length p.1.now < length text.now) }
+{
+    let [b'\\', b'x', high, low, rest @ ..] = text else {
+        return None;
+    };
+    Some((
+        digit(*high)?.wrapping_mul(16).wrapping_add(digit(*low)?),
+        rest,
+    ))
+}
+
+// The first byte that a text stands for, and what follows it.
+fn split_byte(text: &[u8]) -> Option<(u8, &[u8])>
+    ensures { IfSome result (λ p. length p.1.now < length text.now) }
+{
+    split_escape(text).or_else(|| text.split_first().map(|(b, rest)| (*b, rest)))
+}
+
 // The bytes that a text stands for.
 fn unescaped(heap: Global, text: &[u8]) -> Result<Vec<u8>, AllocError> {
     let mut bytes = Vec::new(heap);
-    let mut skip = 0;
-    for (i, b) in text.iter().enumerate() {
-        if skip > 0 {
-            skip -= 1;
-            continue;
-        }
-        match escape(text, i) {
-            Some(value) => {
-                bytes.push(value)?;
-                skip = 3;
-            }
-            None => bytes.push(*b)?,
-        }
+    let mut left = text;
+    while let Some((value, rest)) = split_byte(left) {
+        bytes.push(value)?;
+        left = rest;
     }
     Ok(bytes)
 }
 
-// The byte that \xNN at a place stands for.
-fn escape(text: &[u8], i: usize) -> Option<u8> {
-    let [b'\\', b'x', high, low, ..] = &text[i.min(text.len())..] else {
-        return None;
-    };
-    Some(digit(*high)?.wrapping_mul(16).wrapping_add(digit(*low)?))
-}
-
-// The place of a fault, if there is one.
-fn place<T: Drop>(r: Result<T, Invalid>) -> Option<usize> {
-    match r {
-        Ok(_) => None,
-        Err(invalid) => Some(invalid.place),
-    }
+// Whether bytes are a name of some type.
+fn check<'a, N: TryFrom<&'a [u8], Error = Invalid> + Drop>(bytes: &'a [u8]) -> Result<(), Invalid> {
+    N::try_from(bytes)?;
+    Ok(())
 }
 
 // The verdict on bytes as a name of some kind; none where the kind is unknown.
-fn verdict(kind: &str, bytes: &[u8]) -> Option<Option<usize>> {
+fn verdict(kind: &str, bytes: &[u8]) -> Option<Result<(), Invalid>> {
     match kind {
-        "path" => Some(place(ObjectPath::try_from(bytes))),
-        "interface" => Some(place(InterfaceName::try_from(bytes))),
-        "error" => Some(place(ErrorName::try_from(bytes))),
-        "member" => Some(place(MemberName::try_from(bytes))),
-        "unique" => Some(place(UniqueName::try_from(bytes))),
-        "well-known" => Some(place(WellKnownName::try_from(bytes))),
-        "bus" => Some(place(BusName::try_from(bytes))),
+        "path" => Some(check::<ObjectPath>(bytes)),
+        "interface" => Some(check::<InterfaceName>(bytes)),
+        "error" => Some(check::<ErrorName>(bytes)),
+        "member" => Some(check::<MemberName>(bytes)),
+        "unique" => Some(check::<UniqueName>(bytes)),
+        "well-known" => Some(check::<WellKnownName>(bytes)),
+        "bus" => Some(check::<BusName>(bytes)),
         _ => None,
     }
 }
@@ -78,8 +81,8 @@ fn agrees(heap: Global, line: &str) -> Result<bool, AllocError> {
     let bytes = unescaped(heap, text.as_bytes())?;
     Ok(match verdict(kind, bytes.as_slice()) {
         None => false,
-        Some(None) => expected == "ok",
-        Some(Some(at)) => expected.parse::<usize>() == Ok(at),
+        Some(Ok(())) => expected == "ok",
+        Some(Err(invalid)) => expected.parse::<usize>() == Ok(invalid.place),
     })
 }
 

@@ -4,7 +4,7 @@ use Rattle.message.proofs.Walk.{Walks}
 use Rattle.message.proofs.fields.read_fields.Given as goal
 
 abbrev pub invariant-loop-at : goal.invariant-loop-at
-invariant-loop-at l = Walks l.order l.area (look l.fields) l.at
+invariant-loop-at l = Walks l.reader.order l.reader.message.now (look l.fields) l.at
 
 abbrev pub decreases-loop-at : goal.decreases-loop-at
-decreases-loop-at l = length l.area - l.at
+decreases-loop-at l = length l.reader.message.now - l.at

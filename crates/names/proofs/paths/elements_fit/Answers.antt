@@ -1,22 +1,26 @@
-use Rattle.names.proofs.Limits.{counted-first, counted-slash, counted-byte, too_many, too_long, all_fit}
+use Rattle.std.proofs.Common.{◌≡◌, length, rules, tests}
+use Rattle.std.specs.List.{slice_split}
+use Rattle.std.proofs.lemmas.Iterator.Consumers.{count_from_yields_List}
+use Rattle.std.proofs.lemmas.Iterator.Search.{all_from_yields_List}
+use Rattle.std.proofs.lemmas.Iterator.Splits.{YieldsList-from_slice_split}
+use Rattle.names.specs.Names.{slash}
+use Rattle.names.proofs.Limits.{few-fit, many-fit}
 use Rattle.names.proofs.paths.elements_fit.Goals as goal
-use Rattle.names.proofs.paths.elements_fit.Goals.{then-b-eq47+else-count-ge-MAX_ELEMENTS, else-b-eq47+else-len-ge-MAX_ELEMENT}
 
-pub loop-b-init : goal.loop-b-init
-loop-b-init c = counted-first c.args.s.now
+pub returns-then-count-le-MAX_ELEMENTS : goal.returns-then-count-le-MAX_ELEMENTS
+returns-then-count-le-MAX_ELEMENTS c =
+    let s = c.args.s.now in
+    let e = c.split.ensures in
+    let f = c.split-then-count-le-MAX_ELEMENTS.ensures in
+    let n : c.count.result ≡ length (slice_split slash s) =
+    count_from_yields_List c.split.result c.count.result c.count.ensures.ran (YieldsList-from_slice_split _ slash s e.rest e.done e.closure (λ x b q k. search (rules, tests))) in
+    few-fit s c.count.result c.all.result n c.if-count-le-MAX_ELEMENTS.true
+    (all_from_yields_List _ _ _ c.all.result c.all.ensures.ran (YieldsList-from_slice_split _ slash s f.rest f.done f.closure (λ x b q k. search (rules, tests))) (λ x b q k. search (rules, tests)))
 
-pub returns-then-count-ge-MAX_ELEMENTS : goal.returns-then-count-ge-MAX_ELEMENTS
-returns-then-count-ge-MAX_ELEMENTS c = too_many c.loop-b.invariant c.loop-b-test.true c.if-b-eq47.true c.if-count-ge-MAX_ELEMENTS.true
-
-pub returns-then-len-ge-MAX_ELEMENT : goal.returns-then-len-ge-MAX_ELEMENT
-returns-then-len-ge-MAX_ELEMENT c = too_long c.loop-b.invariant c.loop-b-test.true c.if-b-eq47.false c.if-len-ge-MAX_ELEMENT.true
-
-pub returns : goal.returns
-returns c = all_fit c.loop-b.invariant c.loop-b-test.false
-
-pub loop-b-preserved : goal.loop-b-preserved
-loop-b-preserved c =
-    elim c.if-b-eq47.branch [
-      | then-b-eq47+else-count-ge-MAX_ELEMENTS w ↦ rw (w.count-is, w.len-is) (counted-slash c.loop-b.invariant c.loop-b-test.true w.if-b-eq47.true w.if-count-ge-MAX_ELEMENTS.false)
-      | else-b-eq47+else-len-ge-MAX_ELEMENT w ↦ rw (w.count-is, w.len-is) (counted-byte c.loop-b.invariant c.loop-b-test.true w.if-b-eq47.false w.if-len-ge-MAX_ELEMENT.false)
-    ]
+pub returns-else-count-le-MAX_ELEMENTS : goal.returns-else-count-le-MAX_ELEMENTS
+returns-else-count-le-MAX_ELEMENTS c =
+    let s = c.args.s.now in
+    let e = c.split.ensures in
+    many-fit s c.count.result
+    (count_from_yields_List c.split.result c.count.result c.count.ensures.ran (YieldsList-from_slice_split _ slash s e.rest e.done e.closure (λ x b q k. search (rules, tests))))
+    c.if-count-le-MAX_ELEMENTS.false
