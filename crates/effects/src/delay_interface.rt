@@ -18,6 +18,7 @@ use crate::interface::{
 use crate::text::Text;
 use crate::value::{Signature, Value};
 
+// The properties by ascending name.
 static PROPERTIES: [PropertyInfo<'static>; 3] = [
     PropertyInfo {
         name: b"Bypassed",
@@ -36,6 +37,7 @@ static PROPERTIES: [PropertyInfo<'static>; 3] = [
     },
 ];
 
+// The methods' names in ascending order.
 static METHODS: [&[u8]; 2] = [b"Bypass", b"Check"];
 
 impl Delay {
@@ -49,6 +51,7 @@ impl Delay {
         }
     }
 
+    // Sets Feedback to a number of at most 999.
     fn set_feedback(&mut self, value: &Value) -> Result<(), SetRefusal>
         ensures answer { result ≡ set_answer (delay_model self.old) (codes "Feedback") (seen value.now) }
         ensures after { delay_model self.new ≡ after_set (codes "Feedback") (seen value.now) (delay_model self.old) }
@@ -63,6 +66,7 @@ impl Delay {
         Ok(())
     }
 
+    // Sets Label to a text.
     fn set_label(&mut self, value: &Value) -> Result<(), SetRefusal>
         ensures answer { result ≡ set_answer (delay_model self.old) (codes "Label") (seen value.now) }
         ensures after { delay_model self.new ≡ after_set (codes "Label") (seen value.now) (delay_model self.old) }

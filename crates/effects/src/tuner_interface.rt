@@ -16,6 +16,7 @@ use crate::interface::{
 use crate::tuner::Tuner;
 use crate::value::{Signature, Value};
 
+// The properties by ascending name.
 static PROPERTIES: [PropertyInfo<'static>; 2] = [
     PropertyInfo {
         name: b"Cents",
@@ -29,6 +30,7 @@ static PROPERTIES: [PropertyInfo<'static>; 2] = [
     },
 ];
 
+// The methods' names in ascending order.
 static METHODS: [&[u8]; 1] = [b"Hold"];
 
 impl Tuner {
@@ -77,6 +79,7 @@ impl Tuner {
         Ok(())
     }
 
+    // Fills in the value, unless the properties cannot be read.
     fn fill(&self, value: Value, into: &mut Value) -> Result<(), PropertyFault>
         ensures answer { result ≡ readable (tuner_model self.now).fault }
         ensures value { seen into.new ≡ (if (tuner_model self.now).fault == 0 then seen value else seen into.old) }

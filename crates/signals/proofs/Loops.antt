@@ -11,6 +11,13 @@ use Rattle.outbox.proofs.Chains.{poured-same, poured-stops, poured-then}
 none-some : {X : Type 0} (x : X) → ◌≡◌ {A = Option X} None (Some x) → ⊥
 none-some x e = let z : ◌≡◌ {A = ℕ} 0 1 = cc in omega arith
 
+-- the same of a call that would refuse in other words
+pub poured-ok : {D E : Type 0} (was is : Bytes) (from h : ℕ) (w : Part) → Poured {E = D} was from is (Ok h) w → Poured {E = E} was from is (Ok h) w
+poured-ok was is from h w a = record { by = a.by }
+
+pub poured-err : {D E : Type 0} (was is : Bytes) (from : ℕ) (d : D) (e : E) (w : Part) → Poured was from is (Err d) w → Poured was from is (Err e) w
+poured-err was is from d e w a = record { by = a.by }
+
 module _ {X : Type 0} (f : X → Part) where
   pub many-++ : (xs ys : List X) (off : ℕ) → (many f xs ▹ many f ys) off ≡ many f (xs ++ ys) off
   unfolding many ◌▹◌
@@ -52,17 +59,17 @@ module _ {X : Type 0} (f : X → Part) where
       record { by = record { bytes = sym (take-append-drop from was) ∙ ap (λ n. take from was ++ drop n was) (sym (add-zero from)); ends = sym (add-zero from); fits = le } }
 
   module _ {E : Type 0} (was mid is : Bytes) (from g : ℕ) (xs : List X) (k : ℕ) (x : X) (here : slice_get xs k ≡ Some x) (a : Poured {E = E} was from mid (Ok g) (many f (take k xs))) where
-    pub poured-more : (h : ℕ) → Poured {E = E} mid g is (Ok h) (f x) → Poured {E = E} was from is (Ok h) (many f (take (k + 1) xs))
+    pub poured-more : {D : Type 0} (h : ℕ) → Poured {E = D} mid g is (Ok h) (f x) → Poured {E = E} was from is (Ok h) (many f (take (k + 1) xs))
     unfolding ◌▹◌ many
     poured-more h b =
         let e : (many f (take k xs) ▹ f x) from ≡ many f (take (k + 1) xs) from =
         ap (λ l. many f (take k xs) from ++ l) (many-one x _) ∙ many-++ (take k xs) (x ∷ []) from ∙ ap (λ l. many f l from) (nth-take xs k x here) in
-        poured-same _ _ _ _ _ (many f (take (k + 1) xs)) e (poured-then _ _ _ _ _ _ _ _ a b)
+        poured-same _ _ _ _ _ (many f (take (k + 1) xs)) e (poured-then _ _ _ _ _ _ _ _ a (poured-ok _ _ _ _ _ b))
 
     -- what does not fit here does not fit at all
-    pub poured-stuck : {F : Type 0} (e : E) (d : F) → Poured mid g is (Err e) (f x) → Poured was from is (Err d) (many f xs)
+    pub poured-stuck : {D F : Type 0} (e : D) (d : F) → Poured mid g is (Err e) (f x) → Poured was from is (Err d) (many f xs)
     unfolding many
-    poured-stuck {F} e d b =
+    poured-stuck {D} {F} e d b =
         let rest = many f (drop (k + 1) xs) in
         let q : (many f (take k xs) ▹ (f x ▹ rest)) from ≡ many f xs from = many-++ (take k xs) (x ∷ drop (k + 1) xs) from ∙ ap (λ l. many f l from) (nth-split xs k x here) in
         poured-same _ _ _ _ _ (many f xs) q (poured-then {F = F} _ _ _ _ _ (Err d) _ _ a (poured-stops _ _ _ _ _ _ _ b))

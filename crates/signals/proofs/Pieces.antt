@@ -1,19 +1,17 @@
 -- The pieces that bodies are made of.
-use Rattle.std.proofs.Common.{◌≡◌, ℕ, zero, suc, ◌+◌, ◌≤◌, List, [], ◌∷◌, map, length, get_or, take, Some, None, Ok, Err, Option, Result, sym, refl, ap, ◌∙◌, arith}
+use Rattle.std.proofs.Common.{◌≡◌, ℕ, zero, suc, ◌+◌, ◌<◌, ◌≤◌, List, [], ◌∷◌, map, length, get_or, take, Some, None, Ok, Err, Option, Result, IsErr, IsSome, sym, refl, ap, ◌∙◌, arith}
 use lib.ListN.{length-map}
+use Rattle.std.specs.Borrow.{Bor}
 use Rattle.std.specs.List.{slice_get}
 use Rattle.std.specs.Option.{option_map}
 use Rattle.outbox.specs.Marshal.{Bytes, Part, ◌▹◌, entry, many, put_bool, put_i32, put_signature, put_string, put_u32}
 use Rattle.outbox.specs.Pours.{Poured}
 use Rattle.effects.specs.Values.{ValueModel, truth, whole, count, letters, code_of, seen, type_of}
 use Rattle.effects.specs.declared.value.Value.{Value}
-use Rattle.effects.specs.Calls.{Info, info_of, values_of}
-use Rattle.effects.specs.Model.{InterfaceModel, PropertyModel}
-use Rattle.banks.specs.declared.bank.NoSuchInstance.{NoSuchInstance}
-use Rattle.banks.specs.Rows.{asked}
+use Rattle.effects.specs.Calls.{values_of}
+use Rattle.effects.specs.Model.{PropertyModel}
 use Rattle.outbox.proofs.Chains.{poured-stops, poured-then}
 use Rattle.signals.specs.Bodies.{put_property, put_value}
-use Rattle.signals.specs.Readable.{announced_as}
 use Rattle.signals.proofs.Loops.{poured-more, poured-stuck}
 
 -- a value without its signature
@@ -34,6 +32,11 @@ value-is (letters s) = refl
 pub poured-as : {E : Type 0} (was is : Bytes) (from : ℕ) (r : Result ℕ E) (v w : Part) → v ≡ w → Poured was from is r v → Poured was from is r w
 poured-as was is from r v w e a = rw (sym e) a
 
+-- a refusal that a call hands on
+pub poured-fails : {E : Type 0} (was is : Bytes) (from : ℕ) (r : Result ℕ E) (w : Part) → IsErr r → ((e : E) → Poured was from is (Err e) w) → Poured was from is r w
+poured-fails was is from (Ok n) w h k = let z : ◌≡◌ {A = ℕ} 0 1 = cc in absurd (omega arith)
+poured-fails was is from (Err e) w h k = k e
+
 whole-value : (letter : ℕ) (v : ValueModel) → letter ≡ code_of (type_of v) → put_signature (letter ∷ []) ▹ plain_value v ≡ put_value v
 whole-value letter v same = ap (λ n. put_signature (n ∷ []) ▹ plain_value v) same ∙ value-is v
 
@@ -44,27 +47,6 @@ value-put was mid is from letter v same g r w e a b = poured-as was is from r _ 
 
 pub value-stops : {E : Type 0} (was is : Bytes) (from letter : ℕ) (v : ValueModel) → letter ≡ code_of (type_of v) → (d e : E) → Poured was from is (Err d) (put_signature (letter ∷ [])) → Poured was from is (Err e) (put_value v)
 value-stops was is from letter v same d e a = poured-as was is from (Err e) _ _ (whole-value letter v same) (poured-stops _ _ _ _ _ _ _ a)
-
--- what is known of a property of an instance
-info-of : (q : Option PropertyModel) (i : Info) → ◌≡◌ {A = Option Info} (Some i) (option_map info_of q) → Some i.name ≡ option_map (λ p. p.name) q
-info-of None i e = let z : ◌≡◌ {A = ℕ} 0 1 = cc in absurd (omega arith)
-info-of (Some p) i e = let x : i ≡ info_of p = cc in ap (λ y. Some y.name) x
-
-info-none : (q : Option PropertyModel) → ◌≡◌ {A = Option Info} None (option_map info_of q) → None ≡ option_map (λ p. p.name) q
-info-none None e = refl
-info-none (Some p) e = let z : ◌≡◌ {A = ℕ} 0 1 = cc in absurd (omega arith)
-
-pub name-known : (o : Option InterfaceModel) (k : ℕ) (i : Info) → Ok (Some i) ≡ asked (λ m. option_map info_of (slice_get m.properties k)) o → Some i.name ≡ option_map (λ p. p.name) (slice_get (announced_as o).properties k)
-name-known None k i e = let z : ◌≡◌ {A = ℕ} 0 1 = cc in absurd (omega arith)
-name-known (Some m) k i e = info-of (slice_get m.properties k) i (cc)
-
-pub name-none : (o : Option InterfaceModel) (k : ℕ) → Ok None ≡ asked (λ m. option_map info_of (slice_get m.properties k)) o → None ≡ option_map (λ p. p.name) (slice_get (announced_as o).properties k)
-name-none None k e = refl
-name-none (Some m) k e = info-none (slice_get m.properties k) (cc)
-
-pub name-nothing : (o : Option InterfaceModel) (k : ℕ) (x : NoSuchInstance) → Err x ≡ asked (λ m. option_map info_of (slice_get m.properties k)) o → None ≡ option_map (λ p. p.name) (slice_get (announced_as o).properties k)
-name-nothing None k x e = refl
-name-nothing (Some m) k x e = let z : ◌≡◌ {A = ℕ} 0 1 = cc in absurd (omega arith)
 
 -- the name and the value at a place are the property there
 named : (q : Option PropertyModel) (n : Bytes) → ◌≡◌ {A = Option Bytes} (Some n) (option_map (λ p. p.name) q) → (p : PropertyModel) × (q ≡ Some p) × (n ≡ p.name)
@@ -78,11 +60,11 @@ value-at (q ∷ ps) (v ∷ vs) zero p d e h = let x : q ≡ p = cc in let y : se
 value-at (q ∷ ps) (v ∷ vs) (suc k) p d e h = value-at ps vs k p d (cc) h
 
 -- one more property
-module _ {E : Type 0} (was mid is : Bytes) (from g : ℕ) (ps : List PropertyModel) (vs : List Value) (k : ℕ) (n : Bytes) (v : Value) (read : map seen vs ≡ values_of ps) (at : v ≡ get_or vs k v)
+module _ {E : Type 0} (was mid is : Bytes) (from g : ℕ) (ps : List PropertyModel) (vs : List Value) (k : ℕ) (n : Bytes) (v d : Value) (read : map seen vs ≡ values_of ps) (at : v ≡ get_or vs k d)
     (here : Some n ≡ option_map (λ p. p.name) (slice_get ps k)) (a : Poured {E = E} was from mid (Ok g) (many put_property (take k ps))) where
   property-is : (p : PropertyModel) → slice_get ps k ≡ Some p → n ≡ p.name → entry (put_string n) (put_value (seen v)) ≡ put_property p
   unfolding put_property
-  property-is p h e = ap (λ x. entry (put_string x) (put_value (seen v))) e ∙ ap (λ x. entry (put_string p.name) (put_value x)) (ap seen at ∙ value-at ps vs k p v read h)
+  property-is p h e = ap (λ x. entry (put_string x) (put_value (seen v))) e ∙ ap (λ x. entry (put_string p.name) (put_value x)) (ap seen at ∙ value-at ps vs k p d read h)
 
   pub property-more : (h : ℕ) → Poured {E = E} mid g is (Ok h) (entry (put_string n) (put_value (seen v))) → Poured {E = E} was from is (Ok h) (many put_property (take (k + 1) ps))
   property-more h b =
@@ -101,3 +83,8 @@ pub none_left : (ps : List PropertyModel) (k : ℕ) → None ≡ option_map (λ 
 none_left [] k e = omega arith
 none_left (p ∷ ps) zero e = let z : ◌≡◌ {A = ℕ} 0 1 = cc in absurd (omega arith)
 none_left (p ∷ ps) (suc k) e = omega (arith, none_left ps k e)
+
+-- a property whose value was read has a name
+pub name-there : (ps : List PropertyModel) (vs : List Value) (k : ℕ) (o : Option (Bor Bytes)) → map seen vs ≡ values_of ps → k < length vs → option_map (λ x. x.now) o ≡ option_map (λ p. p.name) (slice_get ps k) → IsSome o
+name-there ps vs k None read lt e = absurd (omega (arith, none_left ps k e, as_many vs ps read))
+name-there ps vs k (Some x) read lt e = refl

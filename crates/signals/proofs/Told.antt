@@ -1,15 +1,16 @@
 -- Signals in lent records and text.
-use Rattle.std.proofs.Common.{◌≡◌, ℕ, zero, suc, ◌+◌, ◌-◌, ◌<◌, ◌≤◌, min, List, [], ◌∷◌, ◌++◌, length, get_or, take, drop, set, Some, sym, refl, ap, ◌∙◌, ⊎_elim, append_assoc, append-nil, arith, length-append, length-drop, length-take}
+use Rattle.std.proofs.Common.{◌≡◌, ℕ, zero, suc, ◌+◌, ◌-◌, ◌<◌, ◌≤◌, min, List, [], ◌∷◌, ◌++◌, length, get_or, take, drop, set, fold, Some, sym, refl, ap, ◌∙◌, ⊎_elim, append_assoc, append-nil, arith, length-append, length-drop}
 use borrow.Rule.Slice.PartMut.{put_mid}
 use lib.Seq.{paste}
 use Rattle.std.proofs.lemmas.List.Edits.{paste_all, paste-paste}
-use Rattle.std.proofs.lemmas.List.{drop_at, drop-drop, drop_more, drop-take, get_or-take, length-take-le, take_all, take_at, take_more_set, take-take}
+use Rattle.std.proofs.lemmas.List.{drop_at, drop-drop, length-take-le, take_all, take_at, take_more_set, take-take}
 use Rattle.std.proofs.lemmas.Bool.{cases_lt}
 use Rattle.std.proofs.lemmas.Slice.{put_mid-paste}
+use Rattle.std.specs.Borrow.{Bor}
 use Rattle.std.specs.List.{slice_get}
+use Rattle.std.specs.Slice.{IsItemAt}
 use Rattle.names.specs.Names.{Bytes}
 use Rattle.signals.specs.declared.sink.Kind.{Kind}
-use Rattle.signals.specs.declared.sink.Kind.TheVariants.{InterfacesAdded}
 use Rattle.signals.specs.declared.list.Record.{Record}
 use Rattle.signals.specs.Lists.{before, piece, shown, told}
 
@@ -19,14 +20,10 @@ unfolding before
 before-le used [] = omega arith
 before-le used (r ∷ rs) = omega (arith, before-le used rs)
 
-pub before-less : (used s : ℕ) (rs : List Record) → before (min used s) rs ≡ min s (before used rs)
+before-less : (used s : ℕ) (rs : List Record) → before (min used s) rs ≡ min s (before used rs)
 unfolding before
 before-less used s [] = omega arith
 before-less used s (r ∷ rs) = omega (arith, before-less used s rs)
-
-before-first : (used : ℕ) (rs : List Record) (r : Record) → min r.start (before used rs) ≡ before used (r ∷ rs)
-unfolding before
-before-first used rs r = refl
 
 before-push : (used more : ℕ) (rs : List Record) (r : Record) → r.start ≡ used → used ≤ more → before more (rs ++ (r ∷ [])) ≡ before used rs
 unfolding before
@@ -126,17 +123,6 @@ nth-told text used (r ∷ rs) (suc i) d lt =
     let e : suc i + 1 ≡ suc (i + 1) = omega arith in
     rw e (nth-told text used rs i d (omega arith))
 
-empty : {X : Type 0} (xs : List X) → length xs ≡ 0 → xs ≡ []
-empty [] e = refl
-empty (x ∷ xs) e = absurd (omega arith)
-
-take_min : {X : Type 0} (m n : ℕ) (xs : List X) → take m (take n xs) ≡ take (min m n) xs
-take_min m n xs =
-    ⊎_elim
-    (λ (lt : m < n). let e : min m n ≡ m = omega arith in take-take m n xs (omega arith) ∙ ap (λ k. take k xs) (sym e))
-    (λ (le : n ≤ m). let e : min m n ≡ n = omega arith in take_all m (take n xs) (omega (arith, length-take n xs)) ∙ ap (λ k. take k xs) (sym e))
-    (cases_lt m n)
-
 -- past the end it is all one
 take_short : {X : Type 0} (m n : ℕ) (xs : List X) → m ≤ n → min n (length xs) ≤ m → take m xs ≡ take n xs
 take_short m n xs le h =
@@ -145,47 +131,22 @@ take_short m n xs le h =
     (λ (all : length xs ≤ m). take_all m xs all ∙ sym (take_all n xs (omega arith)))
     (cases_lt m (length xs))
 
--- a part of the text, to the first of three ends
-module _ (text : Bytes) (limit from to : ℕ) where
-  pub piece-none : min (min to limit) (length text) < from → [] ≡ piece text limit from to
-  piece-none lt =
-      let e : length (piece text limit from to) ≡ 0 = omega (arith, length-take (to - from) (drop from (take limit text)), length-drop from (take limit text), length-take limit text) in
-      sym (empty _ e)
-
-  pub piece-some : from ≤ min (min to limit) (length text) → take (min (min to limit) (length text) - from) (drop from text) ≡ piece text limit from to
-  piece-some le =
-      let d = drop from text in
-      let n : limit ≡ from + (limit - from) = omega arith in
-      let e : drop from (take limit text) ≡ take (limit - from) d = ap (λ k. drop from (take k text)) n ∙ drop-take from (limit - from) text in
-      let k = min (min to limit) (length text) - from in
-      let one : take (to - from) (take (limit - from) d) ≡ take (min (to - from) (limit - from)) d = take_min (to - from) (limit - from) d in
-      let two : take k d ≡ take (min (to - from) (limit - from)) d = take_short k (min (to - from) (limit - from)) d (omega arith) (omega (arith, length-drop from text)) in
-      two ∙ sym one ∙ ap (take (to - from)) (sym e)
-
--- the loop over the records
-pub before-step : (limit used i : ℕ) (rs : List Record) (d : Record) → i < length rs → before limit (drop i rs) ≡ before used rs → before (min limit (get_or rs i d).start) (drop (i + 1) rs) ≡ before used rs
-before-step limit used i rs d lt inv =
-    let r = get_or rs i d in
-    before-less limit r.start (drop (i + 1) rs) ∙ before-first limit (drop (i + 1) rs) r ∙ ap (before limit) (sym (drop_more rs i d lt)) ∙ inv
-
-pub before-end : (limit used i : ℕ) (rs : List Record) → length rs ≤ i → before limit (drop i rs) ≡ before used rs → limit ≡ before used rs
+-- the fold over the records
+pub fold-before : (used : ℕ) (rs : List Record) → fold (λ a (r : Record). min a r.start) used rs ≡ before used rs
 unfolding before
-before-end limit used i rs le inv = ap (before limit) (sym (empty (drop i rs) (omega (arith, length-drop i rs)))) ∙ inv
+fold-before used [] = refl
+fold-before used (r ∷ rs) = fold-before (min used r.start) rs ∙ before-less used r.start rs
 
--- what a slice of records has past its end
-abbrev pub blank : Record
-blank = record { kind = InterfacesAdded; start = 0; middle = 0; end = 0 }
-
--- the signal of a number, as the code finds it
-pub got : (text : Bytes) (records : List Record) (count used i n : ℕ) (d : Record) → n ≡ min count (length records) → i < n
-    → slice_get (told text used (take count records)) i ≡ Some (shown text (before used (take (n - (i + 1)) (drop (i + 1) records))) (get_or records i d))
-got text records count used i n d e lt =
-    let same : take count records ≡ take n records = sym (take_short n count records (omega arith) (omega arith)) in
-    let k : n ≡ i + 1 + (n - (i + 1)) = omega arith in
-    let rest : drop (i + 1) (take n records) ≡ take (n - (i + 1)) (drop (i + 1) records) = ap (λ m. drop (i + 1) (take m records)) k ∙ drop-take (i + 1) (n - (i + 1)) records in
-    ap (λ rs. slice_get (told text used rs) i) same ∙ nth-told text used (take n records) i d (omega (arith, length-take n records))
-    ∙ ap (λ rs. Some (shown text (before used rs) (get_or (take n records) i d))) rest
-    ∙ ap (λ r. Some (shown text (before used (take (n - (i + 1)) (drop (i + 1) records))) r)) (get_or-take n records i d lt)
+-- the signal of a number, as the code finds it among the n that wait
+pub got : (text : Bytes) (records : List Record) (count used i n : ℕ) (r : Bor Record) → n ≡ min count (length records) → IsItemAt (take n records) i (Some r)
+    → slice_get (told text used (take count records)) i ≡ Some (shown text (before used (take (length (take n records) - (i + 1)) (drop (i + 1) (take n records)))) r.now)
+got text records count used i n r e h =
+    let xs = take n records in
+    let same : take count records ≡ xs = sym (take_short n count records (omega arith) (omega arith)) in
+    let later : drop (i + 1) xs ≡ take (length xs - (i + 1)) (drop (i + 1) xs) = sym (take_all _ _ (omega (arith, length-drop (i + 1) xs))) in
+    ap (λ rs. slice_get (told text used rs) i) same ∙ nth-told text used xs i r.now h.3.0
+    ∙ ap (λ x. Some (shown text (before used (drop (i + 1) xs)) x)) (sym h.1)
+    ∙ ap (λ rs. Some (shown text (before used rs) r.now)) later
 
 pub shown_by : (text : Bytes) (limit n : ℕ) (r : Record) (path body : Bytes) → limit ≡ n → path ≡ piece text limit r.start r.middle → body ≡ piece text limit r.middle r.end
     → Some (record { kind = r.kind; path = path; body = body }) ≡ Some (shown text n r)

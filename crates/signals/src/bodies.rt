@@ -1,15 +1,17 @@
 // The bodies of signals, written from the first of the lent bytes on.
-ghost use Rattle.std.specs.Prelude.{◌≡◌, ℕ, ◌≤◌, [], ◌∷◌, map, take, Ok};
-ghost use Rattle.std.specs.List.{slice_get};
-ghost use Rattle.std.specs.Option.{option_map};
+// The place of each write goes in and its end comes out, so a write that does not fit leaves the caller's place as it was.
+// Arrays are opened and closed around their elements in place: a function over a closure would need a contract on the
+// bytes that the closure leaves, and be no shorter.
+ghost use Rattle.std.specs.Prelude.{◌≡◌, [], ◌∷◌, map, IfErr};
 ghost use Rattle.names.specs.Standard.{standard_name};
-ghost use Rattle.effects.specs.Calls.{values_of};
 ghost use Rattle.effects.specs.Values.{seen};
 ghost use Rattle.outbox.specs.Marshal.{entry, many, put_string};
 ghost use Rattle.outbox.specs.Pours.{Poured};
 ghost use Rattle.signals.specs.Bodies.{added_part, put_announced, put_properties, put_property, put_value, removed_part, standard_one};
-ghost use Rattle.signals.specs.Readable.{Bodied, announced, readable, readable_one};
+ghost use Rattle.signals.specs.declared.bodies.BodyError.TheVariants as E;
+ghost use Rattle.signals.specs.Readable.{Bodied, announced, readable};
 
+use crate::instance::Instance;
 use banks::bank::Bank;
 use effects::value::Value;
 use names::standard::Standard;
@@ -28,6 +30,14 @@ pub enum BodyError {
     PropertyFault(usize, u32),
     // There is no room for it.
     Full,
+}
+
+impl From<Full> for BodyError {
+    ghost from_gives = { λ _ e. e ≡ E.Full };
+
+    fn from(_full: Full) -> BodyError {
+        BodyError::Full
+    }
 }
 
 // A value in a variant.
@@ -52,90 +62,49 @@ fn put_property(bytes: &mut [u8], from: usize, name: &[u8], value: &Value) -> Re
     put_value(bytes, at, value)
 }
 
-// The name of an instance; none has the empty one.
-fn name_of<B: Bank>(bank: &B, i: usize) -> &[u8]
-    ensures { result.now ≡ (announced (B.Bank.models bank.now) i).name }
-{
-    match bank.name(i) {
-        Ok(name) => name,
-        Err(_) => &[],
-    }
-}
-
-// The name of a property of an instance.
-fn property_name<B: Bank>(bank: &B, i: usize, k: usize) -> Option<&[u8]>
-    ensures { option_map (λ x. x.now) result ≡ option_map (λ p. p.name) (slice_get (announced (B.Bank.models bank.now) i).properties k) }
-{
-    match bank.property(i, k) {
-        Ok(Some(info)) => Some(info.name),
-        Ok(None) => None,
-        Err(_) => None,
-    }
-}
-
-// The properties of an instance, with the values that were read.
+// The properties of an instance.
 fn put_properties<B: Bank>(
     bytes: &mut [u8],
     from: usize,
-    bank: &B,
-    i: usize,
-    values: &[Value],
+    instance: &Instance<'_, B>,
 ) -> Result<usize, Full>
-    requires { map seen values.now ≡ values_of (announced (B.Bank.models bank.now) i).properties }
-    ensures { Poured bytes.old from bytes.new result (many put_property (announced (B.Bank.models bank.now) i).properties) }
+    ensures { Poured bytes.old from bytes.new result (many put_property (announced (B.Bank.models instance.now.bank.now) instance.now.number).properties) }
 {
     if from > bytes.len().min(MAX_LEN) {
         return Err(Full);
     }
     let mut at = from;
-    for k in 0..values.len() {
-        match property_name(bank, i, k) {
-            Some(name) => at = put_property(bytes, at, name, &values[k])?,
-            None => return Err(Full),
-        }
+    for (k, value) in instance.values.iter().enumerate() {
+        let name = instance.property_name(k).unwrap();
+        at = put_property(bytes, at, name, value)?;
     }
     Ok(at)
 }
 
-// The dictionary of an instance's properties, with the values that were read.
+// The dictionary of an instance's properties.
 fn put_dictionary<B: Bank>(
     bytes: &mut [u8],
     from: usize,
-    bank: &B,
-    i: usize,
-    values: &[Value],
+    instance: &Instance<'_, B>,
 ) -> Result<usize, Full>
-    requires { map seen values.now ≡ values_of (announced (B.Bank.models bank.now) i).properties }
-    ensures { Poured bytes.old from bytes.new result (put_properties (announced (B.Bank.models bank.now) i).properties) }
+    ensures { Poured bytes.old from bytes.new result (put_properties (announced (B.Bank.models instance.now.bank.now) instance.now.number).properties) }
 {
     let at = open_array(bytes, from, Code::DictEntry)?;
-    let at = put_properties(bytes, at, bank, i, values)?;
+    let at = put_properties(bytes, at, instance)?;
     close_array(bytes, from, Code::DictEntry, at)
 }
 
-// The values of an instance's properties, and how many there are.
-fn read_values<B: Bank>(bank: &B, i: usize, into: &mut [Value; 16]) -> usize
-    requires { readable_one i (slice_get (B.Bank.models bank.now) i) ≡ Ok tt }
-    ensures values { map seen (take result into.new) ≡ values_of (announced (B.Bank.models bank.now) i).properties }
-    ensures few { result ≤ 16 }
-{
-    match bank.get_all(i, into) {
-        Ok(Ok(count)) => count,
-        Ok(Err(_)) => 0,
-        Err(_) => 0,
-    }
-}
-
 // An instance's name and its properties.
-fn put_instance<B: Bank>(bytes: &mut [u8], from: usize, bank: &B, i: usize) -> Result<usize, Full>
-    requires { readable_one i (slice_get (B.Bank.models bank.now) i) ≡ Ok tt }
-    ensures { Poured bytes.old from bytes.new result (put_announced (announced (B.Bank.models bank.now) i)) }
+fn put_instance<B: Bank>(
+    bytes: &mut [u8],
+    from: usize,
+    instance: &Instance<'_, B>,
+) -> Result<usize, Full>
+    ensures { Poured bytes.old from bytes.new result (put_announced (announced (B.Bank.models instance.now.bank.now) instance.now.number)) }
 {
-    let mut values = [Value::U32(0); 16];
-    let count = read_values(bank, i, &mut values);
     let at = put_pad(bytes, from, Code::DictEntry)?;
-    let at = put_string(bytes, at, name_of(bank, i))?;
-    put_dictionary(bytes, at, bank, i, &values[0..count])
+    let at = put_string(bytes, at, instance.name())?;
+    put_dictionary(bytes, at, instance)
 }
 
 // Instances one after another.
@@ -144,16 +113,19 @@ fn put_instances<B: Bank>(
     from: usize,
     bank: &B,
     instances: &[usize],
-) -> Result<usize, Full>
+) -> Result<usize, BodyError>
     requires { readable (B.Bank.models bank.now) instances.now ≡ Ok tt }
-    ensures { Poured bytes.old from bytes.new result (many put_announced (map (announced (B.Bank.models bank.now)) instances.now)) }
+    ensures wrote { Poured bytes.old from bytes.new result (many put_announced (map (announced (B.Bank.models bank.now)) instances.now)) }
+    ensures full { IfErr result (λ e. e ≡ BodyError.Full) }
 {
     if from > bytes.len().min(MAX_LEN) {
-        return Err(Full);
+        return Err(BodyError::Full);
     }
+    let mut values = [Value::U32(0); 16];
     let mut at = from;
     for i in instances {
-        at = put_instance(bytes, at, bank, *i)?;
+        let instance = Instance::read(bank, *i, &mut values)?;
+        at = put_instance(bytes, at, &instance)?;
     }
     Ok(at)
 }
@@ -164,14 +136,15 @@ fn put_readable<B: Bank>(
     path: &[u8],
     bank: &B,
     instances: &[usize],
-) -> Result<usize, Full>
+) -> Result<usize, BodyError>
     requires { readable (B.Bank.models bank.now) instances.now ≡ Ok tt }
-    ensures { Poured bytes.old 0 bytes.new result (added_part path.now (map (announced (B.Bank.models bank.now)) instances.now)) }
+    ensures wrote { Poured bytes.old 0 bytes.new result (added_part path.now (map (announced (B.Bank.models bank.now)) instances.now)) }
+    ensures full { IfErr result (λ e. e ≡ BodyError.Full) }
 {
     let start = put_path(bytes, 0, path)?;
     let at = open_array(bytes, start, Code::DictEntry)?;
     let at = put_instances(bytes, at, bank, instances)?;
-    close_array(bytes, start, Code::DictEntry, at)
+    Ok(close_array(bytes, start, Code::DictEntry, at)?)
 }
 
 // Whether all these instances can be read; if not, the first that hinders.
@@ -180,11 +153,7 @@ pub fn check_readable<B: Bank>(bank: &B, instances: &[usize]) -> Result<(), Body
 {
     let mut values = [Value::U32(0); 16];
     for i in instances {
-        match bank.get_all(*i, &mut values) {
-            Ok(Ok(_count)) => {}
-            Ok(Err(fault)) => return Err(BodyError::PropertyFault(*i, fault.number)),
-            Err(_) => return Err(BodyError::NoSuchInstance(*i)),
-        }
+        Instance::read(bank, *i, &mut values)?;
     }
     Ok(())
 }
@@ -198,14 +167,8 @@ pub fn put_added<B: Bank>(
 ) -> Result<usize, BodyError>
     ensures { Bodied bytes.old bytes.new result (readable (B.Bank.models bank.now) instances.now) (added_part path.now (map (announced (B.Bank.models bank.now)) instances.now)) }
 {
-    match check_readable(bank, instances) {
-        Ok(()) => {}
-        Err(e) => return Err(e),
-    }
-    match put_readable(bytes, path, bank, instances) {
-        Ok(n) => Ok(n),
-        Err(_) => Err(BodyError::Full),
-    }
+    check_readable(bank, instances)?;
+    put_readable(bytes, path, bank, instances)
 }
 
 // A standard interface's name, and a dictionary without entries.

@@ -2,5 +2,6 @@
 #![tactic(auto)]
 
 pub mod bodies;
+mod instance;
 pub mod list;
 pub mod sink;

@@ -17,6 +17,8 @@ pub struct Record {
 }
 
 // Signals in lent records, one after another, and their bytes in lent text.
+// No heap: the caller lends both, so each has how much of it is in use beside it. No invariant: a record is plain data
+// with places in the text, and whatever numbers it has, what it says is told.
 #[derive(Drop)]
 pub struct SignalList<'a> {
     records: &'a mut [Record],
@@ -29,11 +31,7 @@ pub struct SignalList<'a> {
 fn text_before(records: &[Record], used: usize) -> usize
     ensures { result ≡ before used records.now }
 {
-    let mut limit = used;
-    for r in records {
-        limit = limit.min(r.start);
-    }
-    limit
+    records.iter().fold(used, |end, r| end.min(r.start))
 }
 
 // The bytes from one place to another, of the first `limit`.
@@ -41,14 +39,12 @@ fn cut(text: &[u8], limit: usize, from: usize, to: usize) -> &[u8]
     ensures { result.now ≡ piece text.now limit from to }
 {
     let to = to.min(limit).min(text.len());
-    if from > to {
-        return &[];
-    }
-    &text[from..to]
+    text.get(from..to).unwrap_or_default()
 }
 
 impl<'a> SignalList<'a> {
     // An empty list.
+    #[tactic(auto, unfolding(crate::specs::Lists::told))]
     pub fn new(records: &'a mut [Record], text: &'a mut [u8]) -> SignalList<'a>
         ensures records { result.records ≡ records.entry }
         ensures text { result.text ≡ text.entry }
@@ -77,12 +73,9 @@ impl SignalList<'_> {
     pub fn get(&self, i: usize) -> Option<Signal<'_>>
         ensures { option_map seen_signal result ≡ slice_get (list_waiting self.now) i }
     {
-        let len = self.len();
-        if i >= len {
-            return None;
-        }
-        let limit = text_before(&self.records[i + 1..len], self.used);
-        let record = self.records[i];
+        let waiting = &self.records[..self.len()];
+        let record = waiting.get(i)?;
+        let limit = text_before(&waiting[i + 1..], self.used);
         Some(Signal {
             kind: record.kind,
             path: cut(self.text, limit, record.start, record.middle),
@@ -124,6 +117,7 @@ impl Sink for SignalList<'_> {
         Ok(())
     }
 
+    #[tactic(auto, unfolding(crate::specs::Lists::told))]
     fn drain(&mut self) {
         self.count = 0;
         self.used = 0;

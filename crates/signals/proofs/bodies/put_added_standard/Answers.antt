@@ -1,26 +1,23 @@
-use Rattle.std.proofs.lemmas.Result.{err_from_is_err_and}
 use Rattle.outbox.proofs.Chains.{poured-stops, poured-then}
 use Rattle.signals.specs.Bodies.{added_part, put_announced}
 use Rattle.signals.proofs.Loops.{array-stops, array-unopened, poured-one}
+use Rattle.signals.proofs.Pieces.{poured-fails}
 use Rattle.signals.proofs.bodies.put_added_standard.Goals as goal
 
 pub returns-in_err-start : goal.returns-in_err-start
 unfolding added_part
 returns-in_err-start c =
-    let p = err_from_is_err_and c.from_residual.result c.from_residual.ensures.1 in
-    rw p.1 (poured-stops _ _ _ _ _ _ _ c.in_err-start.ensures.wrote)
+    poured-fails _ _ _ _ _ c.from_residual.ensures.0 (λ e. poured-stops _ _ _ _ _ _ _ c.in_err-start.ensures.wrote)
 
 pub returns-in_err-at : goal.returns-in_err-at
 unfolding added_part
 returns-in_err-at c =
-    let p = err_from_is_err_and c.from_residual-in_err-at.result c.from_residual-in_err-at.ensures.1 in
-    rw p.1 (poured-then _ _ _ _ _ _ _ _ c.in_ok-start.ensures.wrote (array-unopened _ _ _ _ _ _ _ (c.in_err-at.ensures)))
+    poured-fails _ _ _ _ _ c.from_residual-in_err-at.ensures.0 (λ e. poured-then _ _ _ _ _ _ _ _ c.in_ok-start.ensures.wrote (array-unopened _ _ _ _ _ _ _ (c.in_err-at.ensures)))
 
 pub returns-in_err-at-2 : goal.returns-in_err-at-2
 unfolding added_part
 returns-in_err-at-2 c =
-    let p = err_from_is_err_and c.from_residual-in_err-at-2.result c.from_residual-in_err-at-2.ensures.1 in
-    rw p.1 (poured-then _ _ _ _ _ _ _ _ c.in_ok-start.ensures.wrote (array-stops _ _ _ _ _ _ _ (poured-then _ _ _ _ _ _ _ _ c.in_ok-at.ensures (poured-one put_announced _ _ _ _ _ c.in_err-at-2.ensures))))
+    poured-fails _ _ _ _ _ c.from_residual-in_err-at-2.ensures.0 (λ e. poured-then _ _ _ _ _ _ _ _ c.in_ok-start.ensures.wrote (array-stops _ _ _ _ _ _ _ (poured-then _ _ _ _ _ _ _ _ c.in_ok-at.ensures (poured-one put_announced _ _ _ _ _ c.in_err-at-2.ensures))))
 
 pub returns : goal.returns
 unfolding added_part

@@ -7,4 +7,4 @@ use Rattle.signals.specs.Readable.{announced}
 use Rattle.signals.proofs.bodies.put_properties.Given as goal
 
 abbrev pub invariant-loop-k : goal.invariant-loop-k
-invariant-loop-k g l = Poured {E = Full} l.initial.bytes l.initial.at l.bytes (Ok l.at) (many put_property (take l.k (announced (g.B.Bank.models l.bank) l.i).properties))
+invariant-loop-k g l = Poured {E = Full} l.initial.bytes l.initial.at l.bytes (Ok l.at) (many put_property (take l.k (announced (g.B.Bank.models l.instance.bank.now) l.instance.number).properties))

@@ -1,5 +1,6 @@
 use Rattle.std.proofs.lemmas.Result.{err_from_is_err_and}
 use Rattle.outbox.proofs.Chains.{poured-stops, poured-then}
+use Rattle.signals.proofs.Pieces.{poured-fails}
 use Rattle.signals.proofs.bodies.put_property.Goals as goal
 
 pub returns-in_err-at : goal.returns-in_err-at
@@ -8,8 +9,7 @@ returns-in_err-at c =
 
 pub returns-in_err-at-2 : goal.returns-in_err-at-2
 returns-in_err-at-2 c =
-    let p = err_from_is_err_and c.from_residual-in_err-at-2.result c.from_residual-in_err-at-2.ensures.1 in
-    rw p.1 (poured-then _ _ _ _ _ _ _ _ c.in_ok-at.ensures (poured-stops _ _ _ _ _ _ _ c.in_err-at-2.ensures.wrote))
+    poured-fails _ _ _ _ _ c.from_residual-in_err-at-2.ensures.0 (λ e. poured-then _ _ _ _ _ _ _ _ c.in_ok-at.ensures (poured-stops _ _ _ _ _ _ _ c.in_err-at-2.ensures.wrote))
 
 pub returns : goal.returns
 returns c =

@@ -1,15 +1,13 @@
 use Rattle.std.proofs.Common.{sym, ap, ◌∙◌, rules}
-use Rattle.std.proofs.lemmas.Result.{err_from_is_err_and}
 use Rattle.effects.specs.Values.{code_of, seen}
 use Rattle.outbox.specs.Marshal.{put_i32, put_string}
 use Rattle.outbox.specs.Pours.{Poured}
-use Rattle.signals.proofs.Pieces.{plain_value, value-put, value-stops}
+use Rattle.signals.proofs.Pieces.{plain_value, value-put, value-stops, poured-fails}
 use Rattle.signals.proofs.bodies.put_value.Goals as goal
 
 pub returns-in_err-at : goal.returns-in_err-at
 returns-in_err-at c =
-    let p = err_from_is_err_and c.from_residual.result c.from_residual.ensures.1 in
-    rw p.1 (value-stops _ _ _ _ _ (c.code.ensures ∙ ap code_of c.value_signature.ensures) _ _ c.in_err-at.ensures.wrote)
+    poured-fails _ _ _ _ _ c.from_residual.ensures.0 (λ e. value-stops _ _ _ _ _ (c.code.ensures ∙ ap code_of c.value_signature.ensures) _ _ c.in_err-at.ensures.wrote)
 
 pub returns-in-Bool : goal.returns-in-Bool
 returns-in-Bool c =

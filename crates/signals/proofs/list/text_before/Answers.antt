@@ -1,12 +1,9 @@
-use Rattle.std.proofs.Common.{◌+◌, drop, ap, ◌∙◌}
-use Rattle.signals.specs.Lists.{before}
-use Rattle.signals.proofs.Told.{before-end, before-step}
+use Rattle.std.proofs.Common.{◌≡◌, min, fold, ◌∙◌, rules}
+use Rattle.signals.specs.declared.list.Record.{Record}
+use Rattle.signals.proofs.Told.{fold-before}
 use Rattle.signals.proofs.list.text_before.Goals as goal
 
-pub loop-r-preserved : goal.loop-r-preserved
-loop-r-preserved c =
-    ap (λ n. before n (drop (c.loop-r.r-index + 1) c.args.records.now)) c.min-limit.ensures
-    ∙ before-step c.loop-r.limit c.args.used c.loop-r.r-index c.args.records.now _ c.loop-r-test.true c.loop-r.invariant
-
 pub returns : goal.returns
-returns c = before-end _ _ _ _ c.loop-r-test.false c.loop-r.invariant
+returns c =
+    let e : c.fold.result ≡ fold (λ a (r : Record). min a r.start) c.args.used c.args.records.now = search rules in
+    e ∙ fold-before c.args.used c.args.records.now

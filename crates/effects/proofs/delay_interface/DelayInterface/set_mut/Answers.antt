@@ -7,13 +7,8 @@ returns-in-Bypassed-clause-answer c =
     let e : c.args.name.now ≡ codes "Bypassed" = text_from_reads _ _ (omega arith) (search rules) in
     rw e (search rules)
 
-pub returns-in-Feedback-clause-answer : goal.returns-in-Feedback-clause-answer
-returns-in-Feedback-clause-answer c =
-    let e : c.args.name.now ≡ codes "Feedback" = text_from_reads _ _ (omega arith) (search rules) in
-    rw e (search rules)
-
-pub returns-in-Feedback-clause-after : goal.returns-in-Feedback-clause-after
-returns-in-Feedback-clause-after c =
+pub returns-in-Feedback : goal.returns-in-Feedback
+returns-in-Feedback c =
     let e : c.args.name.now ≡ codes "Feedback" = text_from_reads _ _ (omega arith) (search rules) in
     rw e (search rules)
 
