@@ -1,11 +1,9 @@
-use Rattle.std.proofs.lemmas.Result.{err_from_is_err_and}
-use Rattle.outbox.proofs.Chains.{poured-stops, poured-then}
+use Rattle.outbox.proofs.Chains.{poured_stopped, poured-stops, poured-then}
 use Rattle.signals.proofs.Pieces.{poured-fails}
 use Rattle.signals.proofs.bodies.put_property.Goals as goal
 
 pub returns-in_err-at : goal.returns-in_err-at
-returns-in_err-at c =
-    let p = err_from_is_err_and c.from_residual.result c.from_residual.ensures.1 in rw p.1 (poured-stops _ _ _ _ _ _ _ c.in_err-at.ensures)
+returns-in_err-at c = poured_stopped _ _ _ _ _ _ _ _ c.from_residual.ensures.1 c.in_err-at.ensures
 
 pub returns-in_err-at-2 : goal.returns-in_err-at-2
 returns-in_err-at-2 c =
