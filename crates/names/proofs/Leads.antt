@@ -1,5 +1,5 @@
 -- Names that begin with a certain byte.
-use Rattle.std.proofs.Common.{◌≡◌, ℕ, suc, ◌+◌, ◌<◌, Bool, true, false, cond, ◌&&◌, eqb, leb, List, [], ◌∷◌, ◌++◌, length, take, drop, Some, None, sym, refl, ap, ◌∙◌, subst, add-one, arith, MatchResult, IsErrAnd, Result, Ok, Err, ◌⊎◌, inl, inr, nat_eq}
+use Rattle.std.proofs.Common.{◌≡◌, ℕ, suc, ◌+◌, ◌<◌, Bool, true, false, cond, ◌&&◌, eqb, leb, List, [], ◌∷◌, ◌++◌, length, take, drop, Some, sym, refl, ap, ◌∙◌, subst, add-one, arith, MatchResult, IsErrAnd, Result, Ok, Err, ◌⊎◌, inl, inr, nat_eq}
 use Rattle.std.specs.Prelude.{⊤}
 use lib.Pointwise.{pointwise}
 use mathlib.Core.Bool.{false≢true}
@@ -9,7 +9,8 @@ use Rattle.names.specs.declared.grammar.Alphabet.TheVariants.{Path, Name, Member
 use Rattle.names.specs.declared.grammar.Invalid.{Invalid}
 use Rattle.names.specs.Names.{Bytes, valid, all, onto, pieces, dot, short, dotted, name_element, bus_element, unique_element}
 use Rattle.names.specs.Faults.{Breaks, Checked, lead, after_lead, separates, spells, several, good, fits, Refusal}
-use Rattle.names.proofs.Bools.{and_l, and-true, and-false}
+use Rattle.std.proofs.lemmas.Bool.{and_parts}
+use Rattle.std.proofs.Math.Bool.{and-true, and-false}
 use Rattle.names.specs.Buses.{colon_first, bus_alphabet}
 
 -- `outer` is L and then `inner`
@@ -24,7 +25,7 @@ starts L s = pointwise nat_eq (take 1 s) (L ∷ [])
 
 pub split-first : (L : ℕ) (s rest : Bytes) → starts L s ≡ true → rest ≡ drop 1 s → s ≡ L ∷ rest
 split-first L [] rest h e = absurd (false≢true h)
-split-first L (b ∷ s) rest h e = let k : b ≡ L = eqb-true b L (and_l (eqb b L) true h) in cc
+split-first L (b ∷ s) rest h e = let k : b ≡ L = eqb-true b L ((and_parts (eqb b L) true h).0) in cc
 
 pub breaks-same : {g h : Bytes → Bool} {s : Bytes} {at : ℕ} → ((x : Bytes) → g x ≡ h x) → Breaks g s at → Breaks h s at
 breaks-same {g} {h} {s} {at} e b =
@@ -85,10 +86,6 @@ spells-tail : (x : Bytes) → spells Path x ≡ true → after_lead Path x ≡ t
 spells-tail [] e = refl
 spells-tail (b ∷ x) e = e
 
-pub tail_none : (a : Alphabet) (x : Bytes) → a ≡ Path → length x ≡ 0 → after_lead a x ≡ true
-tail_none a [] p e = rw p
-tail_none a (b ∷ x) p e = absurd (omega arith)
-
 more-than-none : (at : ℕ) (x more : Bytes) → at < length x → 0 < length (take (at + 1) x ++ more)
 more-than-none at [] more h = absurd (omega arith)
 more-than-none at (b ∷ x) more h = rw add-one (omega arith)
@@ -126,20 +123,13 @@ several-after a (inl e) x = rw e
 several-after a (inr (inl e)) x = rw e
 several-after a (inr (inr e)) x = rw e
 
--- where a byte must come first, and where none must
+-- where a byte must come first
 pub led-by : (a : Alphabet) (L : ℕ) → Some L ≡ lead a → Led L (after_lead a) (good a)
 led-by Path L e = let k : L ≡ 47 = cc in rw k (record { none = refl; some = λ b rest. refl; first = refl })
 led-by Unique L e = let k : L ≡ 58 = cc in rw k (record { none = refl; some = λ b rest. refl; first = refl })
 led-by Name L e = cc
 led-by Member L e = cc
 led-by WellKnown L e = cc
-
-pub not-led : (a : Alphabet) → None ≡ lead a → (x : Bytes) → after_lead a x ≡ good a x
-not-led Path e x = cc
-not-led Unique e x = cc
-not-led Name e x = refl
-not-led Member e x = refl
-not-led WellKnown e x = refl
 
 -- something good may follow the byte that must come first
 pub some-after : (a : Alphabet) (L : ℕ) → Some L ≡ lead a → (x : Bytes) × (after_lead a x ≡ true)

@@ -1,4 +1,4 @@
-pub mod Bools
+pub mod Options
 pub mod Scans
 pub mod Parts
 pub mod Leads

@@ -8,7 +8,8 @@ use Rattle.std.specs.Ordering.{nat_cmp, is_lt, is_some_and}
 use Rattle.std.specs.Str.{bytes_eq}
 use Rattle.names.specs.Names.{Bytes, all, word, path_element, elements_of, valid_path}
 use Rattle.names.specs.Paths.{joined, spelled, beneath, bytes_before, path_before, PreOrder}
-use Rattle.names.proofs.Bools.{and_l, and_r, and_i, or_cases, or_l, or_r, same-eq}
+use Rattle.std.proofs.lemmas.Bool.{and_parts, and_from, or_cases, or_left, or_right}
+use Rattle.std.specs.Cmp.Lexicographic.{same_text}
 use Rattle.names.proofs.Spelled.{word-high, word-not-slash, word-not-low, words, path-elements, path-spelled}
 
 -- `<` of slices is the order of bytes
@@ -37,10 +38,10 @@ element-order : (x y : Bytes) (p q : List Bytes) → all word x ≡ true → all
     bytes_before (x ++ joined p) (y ++ joined q) ≡ bytes_before x y || (bytes_eq x y && path_before p q)
 unfolding bytes_before
 element-order [] [] p q h k e = e
-element-order [] (d ∷ y) p q h k e = ended p d (y ++ joined q) (and_l (word d) (all word y) k)
-element-order (c ∷ x) [] p q h k e = longer q c (x ++ joined p) (and_l (word c) (all word x) h)
+element-order [] (d ∷ y) p q h k e = ended p d (y ++ joined q) ((and_parts (word d) (all word y) k).0)
+element-order (c ∷ x) [] p q h k e = longer q c (x ++ joined p) ((and_parts (word c) (all word x) h).0)
 element-order (c ∷ x) (d ∷ y) p q h k e =
-    rw (element-order x y p q (and_r (word c) (all word x) h) (and_r (word d) (all word y) k) e)
+    rw (element-order x y p q ((and_parts (word c) (all word x) h).1) ((and_parts (word d) (all word y) k).1) e)
     (or-assoc-and (ltb c d) (eqb c d) (bytes_before x y) (bytes_eq x y) (path_before p q))
 
 joined-order : (p q : List Bytes) → all path_element p ≡ true → all path_element q ≡ true → bytes_before (joined p) (joined q) ≡ path_before p q
@@ -49,8 +50,8 @@ joined-order [] [] h k = refl
 joined-order [] (y ∷ q) h k = refl
 joined-order (x ∷ p) [] h k = refl
 joined-order (x ∷ p) (y ∷ q) h k =
-    element-order x y p q (words x (and_l (path_element x) (all path_element p) h)) (words y (and_l (path_element y) (all path_element q) k))
-    (joined-order p q (and_r (path_element x) (all path_element p) h) (and_r (path_element y) (all path_element q) k))
+    element-order x y p q (words x ((and_parts (path_element x) (all path_element p) h).0)) (words y ((and_parts (path_element y) (all path_element q) k).0))
+    (joined-order p q ((and_parts (path_element x) (all path_element p) h).1) ((and_parts (path_element y) (all path_element q) k).1))
 
 spelled-order : (p q : List Bytes) → all path_element p ≡ true → all path_element q ≡ true → bytes_before (spelled p) (spelled q) ≡ path_before p q
 unfolding spelled joined bytes_before path_before
@@ -72,8 +73,8 @@ parent-first [] [] h = absurd (false≢true h)
 parent-first [] (y ∷ q) h = refl
 parent-first (x ∷ p) [] h = absurd (false≢true h)
 parent-first (x ∷ p) (y ∷ q) h =
-    or_r (bytes_before x y) (bytes_eq x y && path_before p q)
-    (and_i (bytes_eq x y) (path_before p q) (and_l (bytes_eq x y) (beneath p q) h) (parent-first p q (and_r (bytes_eq x y) (beneath p q) h)))
+    or_right (bytes_before x y) (bytes_eq x y && path_before p q)
+    (and_from (bytes_eq x y) (path_before p q) ((and_parts (bytes_eq x y) (beneath p q) h).0) (parent-first p q ((and_parts (bytes_eq x y) (beneath p q) h).1)))
 
 -- and what is beneath it before all else that follows it
 before-siblings : (p q r : List Bytes) → beneath p q ≡ true → path_before p r ≡ true → beneath p r ≡ false → path_before q r ≡ true
@@ -83,15 +84,15 @@ before-siblings [] q (z ∷ r) h k n = absurd (true≢false n)
 before-siblings (x ∷ p) [] r h k n = absurd (false≢true h)
 before-siblings (x ∷ p) (y ∷ q) [] h k n = absurd (false≢true k)
 before-siblings (x ∷ p) (y ∷ q) (z ∷ r) h k n =
-    let e : x ≡ y = same-eq x y (and_l (bytes_eq x y) (beneath p q) h) in
+    let e : x ≡ y = same_text x y (sym (and_parts (bytes_eq x y) (beneath p q) h).0) in
     ⊎_elim
-    (λ (l : bytes_before x z ≡ true). or_l (bytes_before y z) (bytes_eq y z && path_before q r) (rw e at l))
+    (λ (l : bytes_before x z ≡ true). or_left (bytes_before y z) (bytes_eq y z && path_before q r) (rw e at l))
     (λ (l : bytes_eq x z && path_before p r ≡ true).
-    let s : bytes_eq x z ≡ true = and_l (bytes_eq x z) (path_before p r) l in
+    let s : bytes_eq x z ≡ true = (and_parts (bytes_eq x z) (path_before p r) l).0 in
     let m : beneath p r ≡ false = rw s at n in
-    or_r (bytes_before y z) (bytes_eq y z && path_before q r)
-    (and_i (bytes_eq y z) (path_before q r) (rw e at s)
-    (before-siblings p q r (and_r (bytes_eq x y) (beneath p q) h) (and_r (bytes_eq x z) (path_before p r) l) m)))
+    or_right (bytes_before y z) (bytes_eq y z && path_before q r)
+    (and_from (bytes_eq y z) (path_before q r) (rw e at s)
+    (before-siblings p q r ((and_parts (bytes_eq x y) (beneath p q) h).1) ((and_parts (bytes_eq x z) (path_before p r) l).1) m)))
     (or_cases (bytes_before x z) (bytes_eq x z && path_before p r) k)
 
 pub pre-order : PreOrder

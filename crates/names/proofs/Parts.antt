@@ -10,7 +10,8 @@ use Rattle.names.specs.declared.grammar.Alphabet.{Alphabet}
 use Rattle.names.specs.Names.{Bytes, onto, pieces}
 use Rattle.names.specs.Faults.{Breaks, separates, spells, several}
 use Rattle.names.specs.Scan.{step}
-use Rattle.names.proofs.Bools.{and_i, or_l, or_r, and-false}
+use Rattle.std.proofs.lemmas.Bool.{and_from, or_left, or_right}
+use Rattle.std.proofs.Math.Bool.{and-false}
 use Rattle.names.proofs.Scans.{run, accepts, joined-run, spells-run, begun, run_end}
 
 onto-first : (b : ℕ) (ps : List Bytes) → onto b ps ≡ onto_first b ps
@@ -41,7 +42,7 @@ module _ (sep : ℕ → Bool) where
   any-several bs = any-count bs ∙ two-of (count_by sep bs) ∙ ap (leb 2) (sym (ap length (pieces-split bs) ∙ length-slice_split sep bs))
 
   parted : (p : Bytes) (b : ℕ) (q : Bytes) → sep b ≡ true → leb 2 (length (pieces sep (p ++ (b ∷ q)))) ≡ true
-  parted p b q e = sym (any-several (p ++ (b ∷ q))) ∙ list_any-append sep p (b ∷ q) ∙ or_r (list_any sep p) (sep b || list_any sep q) (or_l (sep b) (list_any sep q) e)
+  parted p b q e = sym (any-several (p ++ (b ∷ q))) ∙ list_any-append sep p (b ∷ q) ∙ or_right (list_any sep p) (sep b || list_any sep q) (or_left (sep b) (list_any sep q) e)
 
 module _ (a : Alphabet) where
   accepted : (o : Option Bool) → accepts a o ≡ true → o ≡ Some false
@@ -59,7 +60,7 @@ module _ (a : Alphabet) where
   spells-more p d e =
       let s : run a (Some true) p ≡ Some false = accepted (run a (Some true) p) (sym (spells-run a p) ∙ e) in
       let g : spells a (p ++ (46 ∷ 97 ∷ [])) ≡ true = joined-run a p s (46 ∷ 97 ∷ []) ∙ ap (accepts a) (gone-on (separates a 46) _ d) in
-      and_i _ _ (parted (separates a) p 46 (97 ∷ []) d) g
+      and_from _ _ (parted (separates a) p 46 (97 ∷ []) d) g
 
   fewer : (bs : Bytes) → spells a bs ≡ false → several a bs ≡ false
   fewer bs e = ap (λ t. leb 2 (length (pieces (separates a) bs)) && t) e ∙ and-false (leb 2 (length (pieces (separates a) bs)))

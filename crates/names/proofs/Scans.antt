@@ -1,17 +1,12 @@
 -- A scan that looks once at each byte finds where the bytes stop spelling elements.
-use Rattle.std.proofs.Common.{◌≡◌, ℕ, zero, suc, ◌+◌, ◌<◌, ◌≤◌, Bool, true, false, cond, not, ◌&&◌, List, [], ◌∷◌, ◌++◌, length, get_or, take, drop, Some, None, Option, sym, refl, ap, ◌∙◌, arith, take_all}
-use Rattle.std.proofs.lemmas.List.{take_more}
+use Rattle.std.proofs.Common.{◌≡◌, ℕ, ◌+◌, ◌<◌, ◌≤◌, Bool, true, false, cond, not, ◌&&◌, List, [], ◌∷◌, ◌++◌, length, get_or, take, drop, Some, None, Option, sym, refl, ap, ◌∙◌, arith, take_all}
+use Rattle.std.proofs.lemmas.List.{take_more, take-append-drop}
 use Rattle.names.specs.declared.grammar.Alphabet.{Alphabet}
 use Rattle.names.specs.declared.grammar.Alphabet.TheVariants.{Path, Name, Member, WellKnown, Unique}
 use Rattle.names.specs.Names.{Bytes, all, onto, pieces, element}
 use Rattle.names.specs.Faults.{Breaks, separates, opens, goes_on, spells}
 use Rattle.names.specs.Scan.{step}
-use Rattle.names.proofs.Bools.{and_assoc}
-
-pub take_rest : (i : ℕ) (s : Bytes) → take i s ++ drop i s ≡ s
-take_rest zero s = refl
-take_rest (suc i) [] = refl
-take_rest (suc i) (b ∷ s) = ap (λ (r : Bytes). b ∷ r) (take_rest i s)
+use Rattle.std.proofs.Math.Bool.{and_assoc}
 
 -- every element may begin with the letter a
 pub begun : (a : Alphabet) → step a true 97 ≡ Some false
@@ -86,9 +81,6 @@ module _ (a : Alphabet) where
   pub record Keeps (s : Bytes) (f : Bool) (i : ℕ) : Type 0 where
     pub so : run (Some true) (take i s) ≡ Some f
 
-  pub keeps-first : (s : Bytes) → Keeps s true 0
-  keeps-first s = record { so = refl }
-
   one_more : {s : Bytes} {f : Bool} {i : ℕ} → Keeps s f i → i < length s → run (Some true) (take (i + 1) s) ≡ step a f (get_or s i 0)
   one_more {s} {f} {i} k h =
       ap (run (Some true)) (take_more s i 0 h)
@@ -117,7 +109,7 @@ module _ (a : Alphabet) where
   stops {s} {f} {i} k h e =
       let none = one_more k h ∙ sym e in
       record {
-        bad = ap (spells a) (sym (take_rest (i + 1) s)) ∙ dead (take (i + 1) s) none (drop (i + 1) s);
+        bad = ap (spells a) (sym (take-append-drop (i + 1) s)) ∙ dead (take (i + 1) s) none (drop (i + 1) s);
         within = omega arith;
         begins = begun-so-far k;
         ends = λ lt rest. dead (take (i + 1) s) none rest;

@@ -4,7 +4,7 @@ use Rattle.std.proofs.lemmas.Bool.{eq-eqb, ne_eqb}
 use Rattle.std.specs.Str.{bytes_eq}
 use Rattle.names.specs.Names.{Bytes, elements_of, valid_path}
 use Rattle.names.specs.Paths.{sooner, before_last, later, after_last, NoSlash, LastSlash, or_root, parent_bytes, parent_of, last_bytes, last_of}
-use Rattle.names.proofs.Scans.{take_rest}
+use Rattle.std.proofs.lemmas.List.{take-append-drop}
 use Rattle.names.proofs.Spelled.{before-further, after-further, parent-elements, last-elements}
 
 no-bytes : NoSlash []
@@ -31,7 +31,7 @@ slash-first b s e n = (rw (n.ahead, eq-eqb b 47 e), rw (n.behind, eq-eqb b 47 e)
 last_found : (s : Bytes) (i : ℕ) → i < length s → get_or s i 0 ≡ 47 → NoSlash (drop (suc i) s) → LastSlash s i
 last_found s i h e n =
     let here = slash-first (get_or s i 0) (drop (suc i) s) e n in
-    let split : take i s ++ (get_or s i 0 ∷ drop (suc i) s) ≡ s = ap (λ (u : Bytes). take i s ++ u) (sym (drop-cons s i 0 h)) ∙ take_rest i s in
+    let split : take i s ++ (get_or s i 0 ∷ drop (suc i) s) ≡ s = ap (λ (u : Bytes). take i s ++ u) (sym (drop-cons s i 0 h)) ∙ take-append-drop i s in
     record {
       within = h;
       ahead = ap before_last (sym split) ∙ before-further (take i s) (get_or s i 0 ∷ drop (suc i) s) [] here.0 ∙ ap Some (append-nil (take i s));

@@ -5,7 +5,8 @@ use Rattle.std.proofs.lemmas.Bool.{eqb-true}
 use Rattle.std.specs.Str.{bytes_eq}
 use Rattle.names.specs.Names.{Bytes, all, onto, pieces, slash, word, path_element, elements_of, valid_path, valid}
 use Rattle.names.specs.Paths.{joined, spelled, beneath, all_but_last, last_of, parent_of, stem, following, deeper, is_beneath, sooner, before_last, later, after_last, or_root, parent_bytes, last_bytes}
-use Rattle.names.proofs.Bools.{and_l, and_r, and_assoc}
+use Rattle.std.proofs.lemmas.Bool.{and_parts}
+use Rattle.std.proofs.Math.Bool.{and_assoc}
 
 -- a slash is below every byte of an element
 pub word-high : (c : ℕ) → word c ≡ true → ltb 47 c ≡ true
@@ -45,16 +46,16 @@ elements-joined : (x : Bytes) (p : List Bytes) → all word x ≡ true → all p
 unfolding joined
 elements-joined [] [] h k = refl
 elements-joined [] (y ∷ p) h k =
-    ap (λ (u : List Bytes). [] ∷ u) (elements-joined y p (words y (and_l (path_element y) (all path_element p) k)) (and_r (path_element y) (all path_element p) k))
+    ap (λ (u : List Bytes). [] ∷ u) (elements-joined y p (words y ((and_parts (path_element y) (all path_element p) k).0)) ((and_parts (path_element y) (all path_element p) k).1))
 elements-joined (c ∷ x) p h k =
-    rw (word-not-slash c (and_l (word c) (all word x) h), elements-joined x p (and_r (word c) (all word x) h) k)
+    rw (word-not-slash c ((and_parts (word c) (all word x) h).0), elements-joined x p ((and_parts (word c) (all word x) h).1) k)
 
 -- a valid path is the spelling of its elements
 
 pub path-elements : (b : Bytes) → valid_path b ≡ true → all path_element (elements_of b) ≡ true
 unfolding valid
 path-elements [] h = absurd (false≢true h)
-path-elements (x ∷ b) h = and_r (eqb x 47) (all path_element (elements_of (x ∷ b))) h
+path-elements (x ∷ b) h = (and_parts (eqb x 47) (all path_element (elements_of (x ∷ b))) h).1
 
 some-joined : (ps : List Bytes) (c : ℕ) (bs : Bytes) → joined ps ≡ 47 ∷ c ∷ bs → spelled ps ≡ 47 ∷ c ∷ bs
 unfolding joined spelled
@@ -64,16 +65,16 @@ some-joined (p ∷ ps) c bs h = h
 pub path-spelled : (b : Bytes) → valid_path b ≡ true → spelled (elements_of b) ≡ b
 unfolding valid spelled
 path-spelled [] h = absurd (false≢true h)
-path-spelled (x ∷ []) h = rw (eqb-true x 47 (and_l (eqb x 47) true h))
+path-spelled (x ∷ []) h = rw (eqb-true x 47 ((and_parts (eqb x 47) true h).0))
 path-spelled (x ∷ c ∷ bs) h =
     some-joined (pieces slash (c ∷ bs)) c bs (joined-pieces (c ∷ bs))
-    ∙ ap (λ (n : ℕ). n ∷ c ∷ bs) (sym (eqb-true x 47 (and_l (eqb x 47) (all path_element (elements_of (x ∷ c ∷ bs))) h)))
+    ∙ ap (λ (n : ℕ). n ∷ c ∷ bs) (sym (eqb-true x 47 ((and_parts (eqb x 47) (all path_element (elements_of (x ∷ c ∷ bs))) h).0)))
 
 pub elements-spelled : (p : List Bytes) → all path_element p ≡ true → elements_of (spelled p) ≡ p
 unfolding spelled joined
 elements-spelled [] h = refl
 elements-spelled ([] ∷ p) h = absurd (false≢true h)
-elements-spelled ((c ∷ x) ∷ p) h = elements-joined (c ∷ x) p (words (c ∷ x) (and_l (path_element (c ∷ x)) (all path_element p) h)) (and_r (path_element (c ∷ x)) (all path_element p) h)
+elements-spelled ((c ∷ x) ∷ p) h = elements-joined (c ∷ x) p (words (c ∷ x) ((and_parts (path_element (c ∷ x)) (all path_element p) h).0)) ((and_parts (path_element (c ∷ x)) (all path_element p) h).1)
 
 pub spelled-valid : (p : List Bytes) → all path_element p ≡ true → valid_path (spelled p) ≡ true
 unfolding valid spelled joined
@@ -102,10 +103,10 @@ beneath-element : (x y : Bytes) (p q : List Bytes) → all word x ≡ true → a
     deeper (following (x ++ joined p) (y ++ joined q)) ≡ bytes_eq x y && deeper (following (joined p) (joined q))
 unfolding following
 beneath-element [] [] p q h k = refl
-beneath-element [] (d ∷ y) p q h k = after-words p d (y ++ joined q) (and_l (word d) (all word y) k)
-beneath-element (c ∷ x) [] p q h k = words-after q c (x ++ joined p) (and_l (word c) (all word x) h)
+beneath-element [] (d ∷ y) p q h k = after-words p d (y ++ joined q) ((and_parts (word d) (all word y) k).0)
+beneath-element (c ∷ x) [] p q h k = words-after q c (x ++ joined p) ((and_parts (word c) (all word x) h).0)
 beneath-element (c ∷ x) (d ∷ y) p q h k =
-    same_first (eqb c d) _ (following (x ++ joined p) (y ++ joined q)) (beneath-element x y p q (and_r (word c) (all word x) h) (and_r (word d) (all word y) k))
+    same_first (eqb c d) _ (following (x ++ joined p) (y ++ joined q)) (beneath-element x y p q ((and_parts (word c) (all word x) h).1) ((and_parts (word d) (all word y) k).1))
     ∙ sym (and_assoc (eqb c d) (bytes_eq x y) (deeper (following (joined p) (joined q))))
 
 beneath-joined : (p q : List Bytes) → all path_element p ≡ true → all path_element q ≡ true → deeper (following (joined p) (joined q)) ≡ beneath p q
@@ -115,8 +116,8 @@ beneath-joined [] ([] ∷ q) h k = absurd (false≢true k)
 beneath-joined [] ((d ∷ y) ∷ q) h k = refl
 beneath-joined (x ∷ p) [] h k = refl
 beneath-joined (x ∷ p) (y ∷ q) h k =
-    beneath-element x y p q (words x (and_l (path_element x) (all path_element p) h)) (words y (and_l (path_element y) (all path_element q) k))
-    ∙ ap (λ t. bytes_eq x y && t) (beneath-joined p q (and_r (path_element x) (all path_element p) h) (and_r (path_element y) (all path_element q) k))
+    beneath-element x y p q (words x ((and_parts (path_element x) (all path_element p) h).0)) (words y ((and_parts (path_element y) (all path_element q) k).0))
+    ∙ ap (λ t. bytes_eq x y && t) (beneath-joined p q ((and_parts (path_element x) (all path_element p) h).1) ((and_parts (path_element y) (all path_element q) k).1))
 
 stem-spelled : (p : List Bytes) → all path_element p ≡ true → stem (spelled p) ≡ joined p
 unfolding spelled joined
@@ -144,12 +145,12 @@ beneath-elements a b h k =
 no_slash : (x : Bytes) → all word x ≡ true → before_last x ≡ None
 unfolding before_last sooner
 no_slash [] h = refl
-no_slash (c ∷ x) h = rw (no_slash x (and_r (word c) (all word x) h), word-not-slash c (and_l (word c) (all word x) h))
+no_slash (c ∷ x) h = rw (no_slash x ((and_parts (word c) (all word x) h).1), word-not-slash c ((and_parts (word c) (all word x) h).0))
 
 no-slash-after : (x : Bytes) → all word x ≡ true → after_last x ≡ None
 unfolding after_last later
 no-slash-after [] h = refl
-no-slash-after (c ∷ x) h = rw (no-slash-after x (and_r (word c) (all word x) h), word-not-slash c (and_l (word c) (all word x) h))
+no-slash-after (c ∷ x) h = rw (no-slash-after x ((and_parts (word c) (all word x) h).1), word-not-slash c ((and_parts (word c) (all word x) h).0))
 
 pub before-further : (x s t : Bytes) → before_last s ≡ Some t → before_last (x ++ s) ≡ Some (x ++ t)
 unfolding before_last sooner
@@ -163,15 +164,15 @@ after-further (c ∷ x) s t h = rw (after-further x s t h)
 
 before-joined : (x : Bytes) (p : List Bytes) → all path_element (x ∷ p) ≡ true → before_last (joined (x ∷ p)) ≡ Some (joined (all_but_last (x ∷ p)))
 unfolding joined before_last sooner all_but_last
-before-joined x [] h = rw (append-nil x, no_slash x (words x (and_l (path_element x) true h)))
+before-joined x [] h = rw (append-nil x, no_slash x (words x ((and_parts (path_element x) true h).0)))
 before-joined x (y ∷ p) h =
-    rw (before-further x (joined (y ∷ p)) (joined (all_but_last (y ∷ p))) (before-joined y p (and_r (path_element x) (all path_element (y ∷ p)) h)))
+    rw (before-further x (joined (y ∷ p)) (joined (all_but_last (y ∷ p))) (before-joined y p ((and_parts (path_element x) (all path_element (y ∷ p)) h).1)))
 
 last-joined : (x : Bytes) (p : List Bytes) → all path_element (x ∷ p) ≡ true → (t : Bytes) × (last_of (x ∷ p) ≡ Some t) × (after_last (joined (x ∷ p)) ≡ Some t)
 unfolding joined after_last later last_of
-last-joined x [] h = (x, refl, rw (append-nil x, no-slash-after x (words x (and_l (path_element x) true h))))
+last-joined x [] h = (x, refl, rw (append-nil x, no-slash-after x (words x ((and_parts (path_element x) true h).0))))
 last-joined x (y ∷ p) h =
-    let r = last-joined y p (and_r (path_element x) (all path_element (y ∷ p)) h) in
+    let r = last-joined y p ((and_parts (path_element x) (all path_element (y ∷ p)) h).1) in
     (r.0, r.1, rw (after-further x (joined (y ∷ p)) r.0 r.2))
 
 root-joined : (p : List Bytes) → or_root (Some (joined p)) ≡ Some (spelled p)

@@ -14,7 +14,7 @@ cond-and : {A : Type 0} (s t : Bool) (x y : A) → cond s (cond t x y) y ≡ con
 cond-and true t x y = refl
 cond-and false t x y = refl
 
-pub following-parts : (p q : Bytes) → following p q ≡ cond (bytes_eq (take (length p) q) p) (Some (drop (length p) q)) None
+following-parts : (p q : Bytes) → following p q ≡ cond (bytes_eq (take (length p) q) p) (Some (drop (length p) q)) None
 unfolding following
 following-parts [] q = refl
 following-parts (x ∷ p) [] = refl
@@ -23,23 +23,12 @@ following-parts (x ∷ p) (y ∷ q) =
     ∙ cond-and (eqb x y) (bytes_eq (take (length p) q) p) (Some (drop (length p) q)) None
     ∙ ap (λ t. cond {A = Option Bytes} (t && bytes_eq (take (length p) q) p) (Some (drop (length p) q)) None) (eqb_swap x y)
 
-pub following-some : (p q : Bytes) → true ≡ bytes_eq (take (length p) q) p → Some (drop (length p) q) ≡ following p q
-following-some p q e = sym (following-parts p q ∙ cond-true _ _ _ (sym e))
-
-pub following-none : (p q : Bytes) → false ≡ bytes_eq (take (length p) q) p → None ≡ following p q
-following-none p q e = sym (following-parts p q ∙ cond-false _ _ _ (sym e))
-
 -- what `strip_prefix` tells
-abbrev pub Fronts : Bytes → Bytes → Bool → Type 0
-Fronts p q r = bytes_eq (take (length p) q) p ≡ r
-
-fronts-same : (p q : Bytes) (r : Bool) → Fronts p q r → r ≡ bytes_eq (take (length p) q) p
-fronts-same p q r h = sym h
-
 pub stripped : (p q : Bytes) (o : Option (Bor Bytes)) →
-    MatchOption o (Fronts p q false) (λ x. Fronts p q true × (x.now ≡ drop (length p) q) × (length x.now + length p ≡ length q)) → option_map (λ x. x.now) o ≡ following p q
-stripped p q None h = following-none p q (fronts-same p q false h)
-stripped p q (Some x) h = ap Some h.1 ∙ following-some p q (fronts-same p q true h.0)
+    MatchOption o (bytes_eq (take (length p) q) p ≡ false) (λ x. (bytes_eq (take (length p) q) p ≡ true) × (x.now ≡ drop (length p) q) × (length x.now + length p ≡ length q)) →
+    option_map (λ x. x.now) o ≡ following p q
+stripped p q None h = sym (following-parts p q ∙ cond-false _ _ _ h)
+stripped p q (Some x) h = ap Some h.1 ∙ sym (following-parts p q ∙ cond-true _ _ _ h.0)
 
 -- what `is_some_and` tells of it
 pub deeper-told : (o : Option (Bor Bytes)) (r : Bool) → MatchOption o (r ≡ false) (λ x. r ≡ deeper (Some x.now)) → r ≡ deeper (option_map (λ x. x.now) o)

@@ -7,7 +7,7 @@ use std::error::Error;
 use std::fmt;
 
 // What the elements of a kind of name are made of, and what separates them.
-#[derive(Clone, Copy)]
+#[derive(Clone, Copy, PartialEq, Eq, Debug)]
 pub enum Alphabet {
     Path,
     Name,
@@ -104,16 +104,14 @@ impl Alphabet {
         ensures { result ≡ step self fresh b }
     {
         if self.separates(b) {
-            if fresh { None } else { Some(true) }
-        } else if if fresh {
+            return (!fresh).then_some(true);
+        }
+        let allowed = if fresh {
             self.opens(b)
         } else {
             self.goes_on(b)
-        } {
-            Some(false)
-        } else {
-            None
-        }
+        };
+        allowed.then_some(false)
     }
 
     // Refuses what is more than elements, with the place of the first byte that makes it so.

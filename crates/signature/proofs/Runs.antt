@@ -1,6 +1,6 @@
 -- A loop of the code runs as `repeat` does.
-use Rattle.std.proofs.Common.{◌≡◌, ℕ, zero, suc, ◌<◌, ◌≤◌, Option, sym, refl, ap, ◌∙◌, arith}
-use Rattle.signature.specs.Repeat.{Turn, go, halt, after, repeat}
+use Rattle.std.proofs.Common.{◌≡◌, ℕ, zero, suc, ◌<◌, ◌≤◌, refl, ap, ◌∙◌, arith}
+use Rattle.signature.specs.Repeat.{Turn, go, after, repeat}
 
 module _ {S R : Type 0} (turn : S → Turn S R) (size : S → ℕ) where
   -- from the state s the loop answers what it answers from its start, in at most n turns more
@@ -18,6 +18,3 @@ module _ {S R : Type 0} (turn : S → Turn S R) (size : S → ℕ) where
 
   pub next : {n : ℕ} {start s : S} (t : S) → Runs n start s → turn s ≡ go t → size t < size s → Runs n start t
   next t w is less = onward t w.fuel w.enough w.same is less
-
-  pub halts : {n : ℕ} {start s : S} (r : Option R) → Runs n start s → turn s ≡ halt r → r ≡ repeat turn (suc n) start
-  halts r w is = sym (w.same ∙ ap (λ u. after u (repeat turn w.fuel)) is)

@@ -1,14 +1,12 @@
 -- The table of type codes has what the Specification has, and a lookup goes through it row by row.
-use Rattle.std.proofs.Common.{◌≡◌, ℕ, ◌<◌, ◌≤◌, Bool, true, false, cond, eqb, List, [], ◌∷◌, map, get_or, Some, None, Option, refl, ap, ◌∙◌, lit<, lit≤}
+use Rattle.std.proofs.Common.{◌≡◌, ℕ, ◌<◌, ◌≤◌, Bool, true, false, cond, eqb, List, [], ◌∷◌, map, get_or, Some, Option, refl, ap, ◌∙◌, lit<, lit≤}
 use denote.Enum.Declared.{tag_of}
 use Rattle.signature.specs.contracts.codes.Code.{the_type}
 use Rattle.signature.specs.declared.codes.Code.{Code}
 use Rattle.signature.specs.declared.codes.Code.TheVariants.{Byte, Boolean, Int16, Uint16, Int32, Uint32, Int64, Uint64, Double, UnixFd, String, ObjectPath, Signature, Array, Structure, DictEntry, Variant}
 use Rattle.std.specs.List.{find}
-use Rattle.std.specs.Option.{ok_or, option_map}
-use Rattle.std.specs.Result.{IfErr}
+use Rattle.std.specs.Option.{option_map}
 use Rattle.signature.specs.declared.codes.Row.{Row}
-use Rattle.signature.specs.declared.codes.UnknownCode.{UnknownCode}
 use Rattle.signature.specs.Codes.{align_of, amongst, code_of, every_code, letter_of, lookup, row_of}
 
 abbrev pub nothing : Row
@@ -67,7 +65,6 @@ align-small Structure = (lit< tt, lit≤ tt)
 align-small DictEntry = (lit< tt, lit≤ tt)
 align-small Variant = (lit< tt, lit≤ tt)
 
--- what refuses a letter holds it
-pub with_letter : (b : ℕ) (e : UnknownCode) → e.0 ≡ b → (o : Option Code) → IfErr (ok_or o e) (λ e. e.0 ≡ b)
-with_letter b e h None = h
-with_letter b e h (Some c) = tt
+pub ruleset letters = (lookup-codes)
+
+pub ruleset alignments = (at_code, align-small)

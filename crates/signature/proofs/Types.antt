@@ -1,13 +1,12 @@
 -- What the walk through a signature does at each place.
-use Rattle.std.proofs.Common.{◌≡◌, ℕ, zero, suc, ◌+◌, ◌<◌, ◌≤◌, Bool, true, false, ◌&&◌, ◌||◌, eqb, leb, List, length, get_or, Some, None, Option, sym, refl, ap, ◌∙◌, ⊎_elim, arith}
+use Rattle.std.proofs.Common.{◌≡◌, ℕ, zero, suc, ◌+◌, ◌≤◌, Bool, true, false, ◌||◌, eqb, List, length, get_or, Some, None, Option, sym, refl, ap, ◌∙◌, arith}
 use Rattle.std.proofs.lemmas.List.{get_or_past}
-use Rattle.std.proofs.lemmas.Bool.{and_left, cases_lt, cond_both, cond-true, cond-false, eq-eqb, le-leb, lt-leb, or_left}
-use Rattle.std.specs.Option.{option_eq}
+use Rattle.std.proofs.lemmas.Bool.{cond_both, cond-true, eq-eqb, or_left}
 use Rattle.signature.specs.declared.levels.Levels.{Levels}
 use Rattle.signature.specs.Codes.{code_of}
-use Rattle.signature.specs.Depth.{full, in_array, in_structure, in_variant}
-use Rattle.signature.specs.Repeat.{bind, halt, onward, repeat}
-use Rattle.signature.specs.Signatures.{ends_at, entry_end, fields_end, first_end, holds, list_turn, single, valid_signature, type_end, type_end_by, type_step}
+use Rattle.signature.specs.Depth.{in_array, in_structure, in_variant}
+use Rattle.signature.specs.Repeat.{bind}
+use Rattle.signature.specs.Signatures.{entry_end, fields_end, type_end, type_end_by, type_step}
 
 -- so many levels are left inside, if one may go inside at all
 abbrev pub AllIs : ℕ → Option Levels → Type 0
@@ -74,47 +73,7 @@ type-here sig in_arr l at = here sig in_arr l at l.all refl
 
 pub ruleset walk = (type-here)
 
--- a `bind` whose first part is known
-pub through : {A B : Type 0} {o : Option A} {x : A} (f : A → Option B) → Some x ≡ o → bind o f ≡ f x
-through f e = ap (λ o. bind o f) (sym e)
-
-pub stuck : {A B : Type 0} {o : Option A} (f : A → Option B) → None ≡ o → bind o f ≡ None
-stuck f e = ap (λ o. bind o f) (sym e)
-
 -- 0 is no type code, so what has one is inside
-pub none-past : (sig : List ℕ) (at : ℕ) → length sig ≤ at → None ≡ code_of (get_or sig at 0)
+pub none_past : (sig : List ℕ) (at : ℕ) → length sig ≤ at → None ≡ code_of (get_or sig at 0)
 unfolding code_of
-none-past sig at h = sym (ap code_of (get_or_past sig at 0 h))
-
-pub letter-inside : (sig : List ℕ) (at b : ℕ) → get_or sig at 0 ≡ b → 0 < b → at < length sig
-letter-inside sig at b e h = ⊎_elim (λ h. h) (λ k. absurd (omega (arith, get_or_past sig at 0 k))) (cases_lt at (length sig))
-
--- a whole signature
-module _ (sig : List ℕ) where
-  pub too_long : 255 < length sig → false ≡ valid_signature sig
-  unfolding valid_signature
-  too_long h = sym (and_left _ _ (lt-leb (length sig) 255 h))
-
-  pub as-listed : (r : Option Bool) → r ≡ repeat (list_turn sig) (suc (length sig)) 0 → length sig ≤ 255 → holds r ≡ valid_signature sig
-  unfolding valid_signature
-  as-listed r e h = ap holds e ∙ sym (ap (λ b. b && holds (repeat (list_turn sig) (suc (length sig)) 0)) (le-leb (length sig) 255 h))
-
-  pub list-none : (i : ℕ) → i < length sig → None ≡ type_end sig false full i → list_turn sig i ≡ halt None
-  list-none i h e = cond-false _ _ _ (lt-leb (length sig) i h) ∙ ap onward (sym e)
-
-  pub list-end : (i : ℕ) → length sig ≤ i → list_turn sig i ≡ halt (Some true)
-  list-end i h = cond-true _ _ _ (le-leb (length sig) i h)
-
-  ends : (o : Option ℕ) → option_eq eqb o (Some (length sig)) ≡ ends_at (length sig) o
-  ends None = refl
-  ends (Some e) = refl
-
-  pub single-short : length sig ≤ 255 → option_eq eqb (first_end sig) (Some (length sig)) ≡ single sig
-  unfolding single
-  single-short h = ends (first_end sig) ∙ sym (ap (λ b. b && ends_at (length sig) (first_end sig)) (le-leb (length sig) 255 h))
-
-  pub single-long : 255 < length sig → leb (length sig) 255 ≡ single sig
-  unfolding single
-  single-long h = lt-leb (length sig) 255 h ∙ sym (and_left _ _ (lt-leb (length sig) 255 h))
-
-pub ruleset singles = (single-short, single-long)
+none_past sig at h = sym (ap code_of (get_or_past sig at 0 h))

@@ -75,6 +75,7 @@ impl TryFrom<u8> for Code {
 
     ghost try_from_gives = { Coded };
 
+    #[tactic(auto, using(crate::proofs::Table::letters), unfolding(crate::specs::Codes::align_of))]
     fn try_from(letter: u8) -> Result<Self, UnknownCode> {
         find(&CODES, letter).ok_or(UnknownCode(letter))
     }
@@ -90,6 +91,7 @@ impl Error for UnknownCode {}
 
 impl Code {
     // The boundary on which a value of this code begins.
+    #[tactic(auto, using(crate::proofs::Table::alignments), unfolding(crate::specs::Codes::align_of))]
     pub fn alignment(self) -> usize
         ensures value { result ≡ align_of self }
         ensures small { (0 < result) × (result ≤ 8) }

@@ -14,6 +14,7 @@ use levels::Levels;
 const MAX_LEN: usize = 255;
 
 // The type code at `at`; none past the end.
+#[tactic(auto, using(crate::proofs::Types::none_past))]
 pub fn code_at(signature: &[u8], at: usize) -> Option<Code>
     ensures value { result ≡ code_of (slice_index signature.now at) }
     ensures inside { IfSome result (λ _. at < length signature.now) }
@@ -32,12 +33,8 @@ pub fn type_end(signature: &[u8], at: usize, in_array: bool, levels: Levels) -> 
     match code_at(signature, at)? {
         Code::Array => type_end(signature, at + 1, true, levels.in_array()?),
         Code::Structure => fields_end(signature, at + 1, levels.in_structure()?),
-        Code::DictEntry => {
-            if !in_array {
-                return None;
-            }
-            entry_end(signature, at + 1, levels.in_structure()?)
-        }
+        Code::DictEntry if in_array => entry_end(signature, at + 1, levels.in_structure()?),
+        Code::DictEntry => None,
         _ => Some(at + 1),
     }
 }
@@ -78,6 +75,7 @@ pub fn first_end(signature: &[u8]) -> Option<usize>
 }
 
 // Whether these bytes are a signature: at most 255 bytes, one single complete type after another.
+#[tactic(auto, unfolding(crate::specs::Signatures::valid_signature))]
 pub fn is_signature(signature: &[u8]) -> bool
     ensures { result ≡ valid_signature signature.now }
 {
@@ -96,7 +94,7 @@ pub fn is_signature(signature: &[u8]) -> bool
 }
 
 // Whether these bytes are exactly one single complete type, of at most 255 bytes.
-#[tactic(auto, using(crate::proofs::Types::singles))]
+#[tactic(auto, unfolding(crate::specs::Signatures::single))]
 pub fn is_single(signature: &[u8]) -> bool
     ensures { result ≡ single signature.now }
 {

@@ -1,54 +1,11 @@
 -- What the walk through a value does at each place.
-use Rattle.std.proofs.Common.{◌≡◌, ℕ, zero, suc, ◌+◌, ◌<◌, List, get_or, Some, None, Ok, Err, Option, Result, sym, refl, ap, ◌∙◌, arith}
-use Rattle.std.proofs.lemmas.Bool.{cond-false, cond-true, lt-ltb, ne_eqb}
-use Rattle.std.specs.Result.{result_ok}
-use Rattle.signature.specs.declared.codes.Code.{Code}
-use Rattle.signature.specs.declared.codes.Code.TheVariants.{Byte, Boolean, Int16, Uint16, Int32, Uint32, Int64, Uint64, Double, UnixFd, String, ObjectPath, Signature, Array, Structure, DictEntry, Variant}
+use Rattle.std.proofs.Common.{◌≡◌, ℕ, zero, suc, ◌+◌, List, None, Option, refl, ap, ◌∙◌}
 use Rattle.signature.specs.declared.levels.Levels.{Levels}
 use Rattle.wire.specs.declared.reading.ByteOrder.{ByteOrder}
-use Rattle.wire.specs.declared.reading.Fault.{Fault}
 use Rattle.signature.specs.Depth.{in_array, in_structure, in_variant}
-use Rattle.wire.specs.Reading.{Grown}
-use Rattle.signature.specs.Repeat.{bind, go, onward}
-use Rattle.signature.specs.Signatures.{Inside}
-use Rattle.signature.proofs.Table.{align-small}
+use Rattle.signature.specs.Repeat.{bind}
 use Rattle.signature.proofs.Types.{array-all, array-none, descend, nowhere, structure-all, structure-none, variant-all, variant-none}
-use Rattle.skip.specs.Values.{Skip, array_end, basic_end, field_turn, fields_end, fixed_end, item_turn, value_end, value_end_by, value_step, variant_end}
-
--- a code that asks nothing of its bytes
-pub fixed-alone : (order : ByteOrder) (msg : List ℕ) (c : Code) (at : ℕ) → (c ≡ Array → ⊥) → (c ≡ Structure → ⊥) → (c ≡ DictEntry → ⊥) → (c ≡ Variant → ⊥) → (c ≡ Boolean → ⊥) → (c ≡ String → ⊥) → (c ≡ ObjectPath → ⊥) → (c ≡ Signature → ⊥) → basic_end order msg c at ≡ fixed_end msg c at
-fixed-alone order msg Byte at a s d v b t p g = refl
-fixed-alone order msg Boolean at a s d v b t p g = absurd (b refl)
-fixed-alone order msg Int16 at a s d v b t p g = refl
-fixed-alone order msg Uint16 at a s d v b t p g = refl
-fixed-alone order msg Int32 at a s d v b t p g = refl
-fixed-alone order msg Uint32 at a s d v b t p g = refl
-fixed-alone order msg Int64 at a s d v b t p g = refl
-fixed-alone order msg Uint64 at a s d v b t p g = refl
-fixed-alone order msg Double at a s d v b t p g = refl
-fixed-alone order msg UnixFd at a s d v b t p g = refl
-fixed-alone order msg String at a s d v b t p g = absurd (t refl)
-fixed-alone order msg ObjectPath at a s d v b t p g = absurd (p refl)
-fixed-alone order msg Signature at a s d v b t p g = absurd (g refl)
-fixed-alone order msg Array at a s d v b t p g = absurd (a refl)
-fixed-alone order msg Structure at a s d v b t p g = absurd (s refl)
-fixed-alone order msg DictEntry at a s d v b t p g = absurd (d refl)
-fixed-alone order msg Variant at a s d v b t p g = absurd (v refl)
-
-pub inside-ok : (msg : List ℕ) (at n : ℕ) (r : Result ℕ Fault) → 0 < n → Grown msg at n r → Inside msg at (result_ok r)
-inside-ok msg at n (Ok p) h w = (omega (arith, w.0), w.1)
-inside-ok msg at n (Err e) h w = tt
-
-pub ruleset basics = (fixed-alone, inside-ok, align-small)
-
--- a step that was read, and one that was not
-pub read : {A B : Type 0} {r : Result A Fault} {x : A} (f : A → Option B) → Ok x ≡ r → bind (result_ok r) f ≡ f x
-read f e = ap (λ r. bind (result_ok r) f) (sym e)
-
-pub unread : {A B : Type 0} {r : Result A Fault} {e : Fault} (f : A → Option B) → Err e ≡ r → bind (result_ok r) f ≡ None
-unread f e = ap (λ r. bind (result_ok r) f) (sym e)
-
-pub ruleset steps = (read, unread)
+use Rattle.skip.specs.Values.{Skip, array_end, fields_end, value_end, value_end_by, value_step, variant_end}
 
 -- where a value of such a type ends
 module _ (order : ByteOrder) (msg : List ℕ) where
@@ -88,13 +45,3 @@ module _ (order : ByteOrder) (msg : List ℕ) where
     value-here = here l sig at pos l.all refl
 
 pub ruleset walk = (value-here)
-
--- one element more
-module _ (f : ℕ → Option (ℕ × ℕ)) (end p : ℕ) where
-  pub item_on : {q : ℕ × ℕ} → p < end → Some q ≡ f p → item_turn f end p ≡ go q.1
-  item_on h e = cond-true _ _ _ (lt-ltb p end h) ∙ ap (λ o. onward (bind o (λ q. Some q.1))) (sym e)
-
--- one field more
-module _ (f : Skip) (close : ℕ) (sig : List ℕ) (i p : ℕ) where
-  pub field-on : {q : ℕ × ℕ} → (get_or sig i 0 ≡ close → ⊥) → Some q ≡ f i p → field_turn f close sig (i, p) ≡ go q
-  field-on ne e = cond-false _ _ _ (ne_eqb _ _ ne) ∙ ap onward (sym e)

@@ -15,7 +15,7 @@ use wire::reading::{Fault, Reader, align, fixed_end, read_signature};
 const MAX_ARRAY: u32 = 1 << 26;
 
 // Past a value of a basic type.
-#[tactic(auto, using(crate::proofs::Walk::basics))]
+#[tactic(auto, unfolding(signature::specs::Codes::align_of))]
 fn basic_end(reader: Reader, code: Code, at: usize) -> Option<usize>
     ensures value { result ≡ basic_end reader.entry.order reader.entry.message.now code at }
     ensures inside { Inside reader.entry.message.now at result }
@@ -31,7 +31,7 @@ fn basic_end(reader: Reader, code: Code, at: usize) -> Option<usize>
 }
 
 // Where the elements of an array begin, and where they must end.
-#[tactic(auto, using(crate::proofs::Walk::steps), unfolding(crate::specs::Values::array_span))]
+#[tactic(auto, unfolding(crate::specs::Values::array_span))]
 fn array_span(reader: Reader, element: Code, at: usize) -> Option<(usize, usize)>
     ensures value { result ≡ array_span reader.entry.order reader.entry.message.now element at }
     ensures within { Span reader.entry.message.now at result }
@@ -101,7 +101,6 @@ impl<'m, 's> Walker<'m, 's> {
 
     // Past the fields of a structure or a dictionary entry, and past its closing bracket in the signature.
     #[cycle(walk)]
-    #[tactic(auto, using(crate::proofs::Walk::steps))]
     fn fields(self, at: usize, pos: usize, close: u8, levels: Levels) -> Option<(usize, usize)>
         requires { 0 < close }
         ensures value { result ≡ fields_end self.entry.reader.message.now (value_end self.entry.reader.order self.entry.reader.message.now levels self.entry.signature.now) close self.entry.signature.now at pos }
@@ -118,7 +117,6 @@ impl<'m, 's> Walker<'m, 's> {
 
     // Past a variant: a signature of one type, and a value of it.
     #[cycle(walk)]
-    #[tactic(auto, using(crate::proofs::Walk::steps))]
     fn variant(self, pos: usize, levels: Levels) -> Option<usize>
         ensures value { result ≡ variant_end self.entry.reader.message.now (value_end self.entry.reader.order self.entry.reader.message.now levels) pos }
         ensures inside { Inside self.entry.reader.message.now pos result }

@@ -97,7 +97,7 @@ fn bytes_end(message: &[u8], at: usize, n: usize) -> Result<usize, Fault>
 }
 
 // Past the padding before a value of this code.
-#[tactic(auto, using(crate::proofs::Read::aligns))]
+#[tactic(auto, unfolding(crate::specs::Reading::align_at))]
 pub fn align(message: &[u8], at: usize, code: Code) -> Result<usize, Fault>
     ensures value { result ≡ align_at (align_of code) message.now at }
     ensures within { Onward message.now at result }
@@ -111,7 +111,7 @@ pub fn align(message: &[u8], at: usize, code: Code) -> Result<usize, Fault>
 }
 
 // Past a value of a fixed length, which is its alignment.
-#[tactic(auto, using(crate::proofs::Read::steps), unfolding(crate::specs::Reading::fixed_at))]
+#[tactic(auto, unfolding(crate::specs::Reading::fixed_at))]
 pub fn fixed_end(message: &[u8], at: usize, code: Code) -> Result<usize, Fault>
     ensures value { result ≡ fixed_at (align_of code) message.now at }
     ensures within { Grown message.now at (align_of code) result }
@@ -152,7 +152,7 @@ impl StringLike {
 }
 
 // The `len` bytes at `at`, which a zero follows.
-#[tactic(auto, using(crate::proofs::Read::steps), unfolding(crate::specs::Reading::ended_at))]
+#[tactic(auto, unfolding(crate::specs::Reading::ended_at))]
 fn read_ended(message: &[u8], at: usize, len: usize) -> Result<(&[u8], usize), Fault>
     ensures value { seen result ≡ ended_at len message.now at }
     ensures within { Past message.now at 1 result }
@@ -166,7 +166,7 @@ fn read_ended(message: &[u8], at: usize, len: usize) -> Result<(&[u8], usize), F
 }
 
 // The same, with what the type asks of its text.
-#[tactic(auto, using(crate::proofs::Read::steps), unfolding(crate::specs::Reading::text_at))]
+#[tactic(auto, unfolding(crate::specs::Reading::text_at))]
 fn read_text(
     message: &[u8],
     kind: StringLike,
@@ -184,7 +184,7 @@ fn read_text(
 }
 
 // A signature of the message.
-#[tactic(auto, using(crate::proofs::Read::steps), unfolding(crate::specs::Reading::signature_at))]
+#[tactic(auto, unfolding(crate::specs::Reading::signature_at))]
 pub fn read_signature(message: &[u8], at: usize) -> Result<(&[u8], usize), Fault>
     ensures value { seen result ≡ signature_at message.now at }
     ensures within { Past message.now at 2 result }
@@ -220,7 +220,7 @@ impl<'m> Reader<'m> {
     }
 
     // A number of 32 bits.
-    #[tactic(auto, using(crate::proofs::Read::steps), unfolding(crate::specs::Reading::u32_at, signature::specs::Codes::align_of))]
+    #[tactic(auto, unfolding(crate::specs::Reading::u32_at, signature::specs::Codes::align_of))]
     pub fn read_u32(self, at: usize) -> Result<(u32, usize), Fault>
         ensures value { result ≡ u32_at self.entry.order self.entry.message.now at }
         ensures within { Past self.entry.message.now at 4 result }
@@ -230,7 +230,7 @@ impl<'m> Reader<'m> {
     }
 
     // A boolean, 0 or 1 in 32 bits.
-    #[tactic(auto, using(crate::proofs::Read::steps), unfolding(crate::specs::Reading::bool_at))]
+    #[tactic(auto, unfolding(crate::specs::Reading::bool_at))]
     pub fn read_bool(self, at: usize) -> Result<(bool, usize), Fault>
         ensures value { result ≡ bool_at self.entry.order self.entry.message.now at }
         ensures within { Past self.entry.message.now at 4 result }
@@ -243,7 +243,6 @@ impl<'m> Reader<'m> {
     }
 
     // A text after its length in 32 bits.
-    #[tactic(auto, using(crate::proofs::Read::steps))]
     fn read_counted(self, kind: StringLike, at: usize) -> Result<(&'m [u8], usize), Fault>
         ensures value { seen result ≡ counted_at kind self.entry.order self.entry.message.now at }
         ensures within { Past self.entry.message.now at 5 result }

@@ -1,11 +1,6 @@
-use Rattle.std.proofs.Common.{◌≡◌, ◌<◌, length, rules}
-use Rattle.names.proofs.Leads.{checked-same, tail_none, path-after, member-after, several-after}
+use Rattle.std.proofs.Common.{◌<◌, length, rules}
+use Rattle.names.proofs.Leads.{checked-same, path-after, member-after, several-after}
 use Rattle.names.proofs.grammar.Alphabet.check_after_lead.Goals as goal
-
-pub returns-in-Path : goal.returns-in-Path
-returns-in-Path c =
-    let none : length c.args.s.now ≡ 0 = search rules in
-    tail_none c.args.self c.args.s.now c.in-Path.is none
 
 pub returns-in-Path-2 : goal.returns-in-Path-2
 returns-in-Path-2 c =

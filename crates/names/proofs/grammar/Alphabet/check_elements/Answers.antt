@@ -1,11 +1,8 @@
 use Rattle.std.proofs.Common.{not, sym, ap, ◌∙◌, arith}
 use Rattle.std.proofs.lemmas.Result.{err_from_is_err_and}
-use Rattle.names.proofs.Bools.{none-ok_or}
-use Rattle.names.proofs.Scans.{keeps-first, keeps-more, stops, whole, unfinished}
+use Rattle.names.proofs.Options.{none-ok_or}
+use Rattle.names.proofs.Scans.{keeps-more, stops, whole, unfinished}
 use Rattle.names.proofs.grammar.Alphabet.check_elements.Goals as goal
-
-pub loop-i-init : goal.loop-i-init
-loop-i-init c = keeps-first c.args.self c.args.s.now
 
 pub returns-in_err-fresh : goal.returns-in_err-fresh
 returns-in_err-fresh c =

@@ -1,12 +1,9 @@
 use Rattle.std.proofs.Common.{◌≡◌, sym, MatchResult, Ok, IsErrAnd, ◌+◌, rules}
 use Rattle.std.proofs.lemmas.Option.{MatchOption-at_none, MatchOption-at_some}
 use Rattle.std.proofs.lemmas.Result.{err_from_is_err_and}
-use Rattle.names.proofs.Bools.{none-ok_or}
-use Rattle.names.proofs.Leads.{checked-same, checked-led, split-first, led-by, not-led, some-after, breaks-first}
+use Rattle.names.proofs.Options.{none-ok_or}
+use Rattle.names.proofs.Leads.{checked-led, split-first, led-by, some-after, breaks-first}
 use Rattle.names.proofs.grammar.Alphabet.check_form.Goals as goal
-
-pub returns-in_default : goal.returns-in_default
-returns-in_default c = checked-same _ _ (not-led c.args.self c.in_default.ensures) c.check_after_lead.ensures
 
 pub returns-in_err-rest : goal.returns-in_err-rest
 returns-in_err-rest c =
