@@ -9,6 +9,7 @@ pub struct Levels {
     pub all: usize,
 }
 
+// Each container lowers other counts: one function for all three would take them as numbers, and say less.
 impl Levels {
     // Nothing is nested yet.
     #[tactic(auto, unfolding(crate::specs::Depth::full))]

@@ -48,7 +48,8 @@ fn array_span(reader: Reader, element: Code, at: usize) -> Option<(usize, usize)
     Some((first, first + len))
 }
 
-// A walk through values of a message and, beside it, through the signature with their types.
+// A walk through values of a message and, beside it, through the signature with their types. The places and the levels
+// differ at each call, so they stay parameters.
 #[derive(Clone, Copy)]
 struct Walker<'m, 's> {
     reader: Reader<'m>,

@@ -84,6 +84,8 @@ pub fn gap_to(code: Code, at: usize) -> usize
     (alignment - at % alignment) % alignment
 }
 
+// What needs no byte order takes the bytes and a place alone: so nobody has to name an order for it.
+
 // Past `n` bytes.
 fn bytes_end(message: &[u8], at: usize, n: usize) -> Result<usize, Fault>
     ensures value { result ≡ bytes_at n message.now at }

@@ -270,56 +270,14 @@ fn levels(rt: HostRuntime) {
         message,
         order: ByteOrder::Little,
     };
-    assert_eq!(rt;
-        skip(
-            reader,
-            deep,
-            0,
-            Levels {
-                arrays: 32,
-                structures: 32,
-                all: 64,
-            },
-        ),
-        Ok(129)
-    );
-    assert_eq!(rt;
-        skip(
-            reader,
-            deep,
-            0,
-            Levels {
-                arrays: 31,
-                structures: 32,
-                all: 64,
-            },
-        ),
-        Err(Fault::Value(0))
-    );
-    assert_eq!(rt;
-        skip(
-            reader,
-            deep,
-            0,
-            Levels {
-                arrays: 32,
-                structures: 31,
-                all: 64,
-            },
-        ),
-        Err(Fault::Value(0))
-    );
-    assert_eq!(rt;
-        skip(
-            reader,
-            deep,
-            0,
-            Levels {
-                arrays: 32,
-                structures: 32,
-                all: 63,
-            },
-        ),
-        Err(Fault::Value(0))
-    );
+    let full = Levels {
+        arrays: 32,
+        structures: 32,
+        all: 64,
+    };
+    assert_eq!(rt; skip(reader, deep, 0, full), Ok(129));
+    let refused = Err(Fault::Value(0));
+    assert_eq!(rt; skip(reader, deep, 0, Levels { arrays: 31, ..full }), refused);
+    assert_eq!(rt; skip(reader, deep, 0, Levels { structures: 31, ..full }), refused);
+    assert_eq!(rt; skip(reader, deep, 0, Levels { all: 63, ..full }), refused);
 }
