@@ -141,9 +141,7 @@ pub fn put_signature(bytes: &mut [u8], from: usize, signature: &[u8]) -> Result<
     ensures long { 255 < length signature.now → (is_ok result ≡ false) × (bytes.new ≡ bytes.old) }
     ensures reads { valid_signature signature.now ≡ true → ReadsBack signature_at bytes.new from result signature.now }
 {
-    let Ok(len) = u8::try_from(signature.len()) else {
-        return Err(Full);
-    };
+    let len = u8::try_from(signature.len()).map_err(|_| Full)?;
     let at = put_raw(bytes, from, &[len])?;
     put_ended(bytes, at, signature)
 }
