@@ -2,6 +2,7 @@
 // The place of each write goes in and its end comes out, so a write that does not fit leaves the caller's place as it was.
 // Arrays are opened and closed around their elements in place: a function over a closure would need a contract on the
 // bytes that the closure leaves, and be no shorter.
+// A bank and numbers of instances come side by side from the caller of a public call; inside, an `Instance` holds both.
 ghost use Rattle.std.specs.Prelude.{◌≡◌, [], ◌∷◌, map, IfErr};
 ghost use Rattle.names.specs.Standard.{standard_name};
 ghost use Rattle.effects.specs.Values.{seen};

@@ -82,7 +82,7 @@ pub fn is_signature(signature: &[u8]) -> bool
     if signature.len() > MAX_LEN {
         return false;
     }
-    // A type's length moves the place: no iterator knows it.
+    // A type's length moves the place: no iterator knows it. The answer is a bool, so `?` has nothing to hand on.
     let mut at = 0;
     while at < signature.len() {
         let Some(end) = type_end(signature, at, false, Levels::full()) else {
