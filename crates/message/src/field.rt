@@ -1,4 +1,5 @@
 // One header field: a code byte and a variant, on a boundary of 8.
+// Each end comes with its bound: a caller goes on from there, and no type holds it.
 ghost use Rattle.std.specs.Prelude.{◌≡◌, Bool, Err, IsOkAnd, MatchBool, MatchResult};
 ghost use Rattle.names.specs.Names.{valid_bus, valid_interface, valid_member, valid_unique};
 ghost use Rattle.message.specs.declared.field.Flaw.TheVariants.{BadValue};

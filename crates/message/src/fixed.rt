@@ -87,10 +87,9 @@ fn word_at(reader: Reader, at: usize) -> Option<u32>
 fn lengths_meet(message: &[u8], fields_len: u32, body_len: u32) -> bool
     ensures { result ≡ lengths_meet message.now fields_len body_len }
 {
-    if fields_len > MAX_FIELDS || message.len() > MAX_MESSAGE {
-        return false;
-    }
-    raise(FIXED_LEN + fields_len as usize) + body_len as usize == message.len()
+    fields_len <= MAX_FIELDS
+        && message.len() <= MAX_MESSAGE
+        && raise(FIXED_LEN + fields_len as usize) + body_len as usize == message.len()
 }
 
 impl FixedPart {

@@ -21,9 +21,9 @@ lookup-rows b [] = refl
 lookup-rows b (c ∷ cs) = map_cond (λ r. r.code) (eqb (letter_of c) b) (row_of c) (find (λ r. eqb r.letter b) (map row_of cs)) ∙ ap (cond (eqb (letter_of c) b) (Some c)) (lookup-rows b cs)
 
 -- the whole table, at every letter
-pub lookup-codes : (b : ℕ) → lookup b (map row_of every_code) ≡ code_of b
+pub lookup_codes : (b : ℕ) → lookup b (map row_of every_code) ≡ code_of b
 unfolding code_of
-lookup-codes b = lookup-rows b every_code
+lookup_codes b = lookup-rows b every_code
 
 -- and by the number of a code
 pub at_code : (c : Code) → (get_or (map row_of every_code) (tag_of the_type c) nothing).alignment ≡ align_of c
@@ -64,7 +64,5 @@ align-small Array = (lit< tt, lit≤ tt)
 align-small Structure = (lit< tt, lit≤ tt)
 align-small DictEntry = (lit< tt, lit≤ tt)
 align-small Variant = (lit< tt, lit≤ tt)
-
-pub ruleset letters = (lookup-codes)
 
 pub ruleset alignments = (at_code, align-small)

@@ -67,11 +67,9 @@ here sig in_arr l at (suc d) e =
     ∙ ap (λ x. type_step in_arr (array_part sig l (at + 1)) (structure_part sig l (at + 1)) x sig at) t
 
 -- the definition's recursion, without its counter
-pub type-here : (sig : List ℕ) (in_arr : Bool) (l : Levels) (at : ℕ) → type_end sig in_arr l at ≡ type_step in_arr (array_part sig l (at + 1)) (structure_part sig l (at + 1)) (entry_part sig l (at + 1)) sig at
+pub type_here : (sig : List ℕ) (in_arr : Bool) (l : Levels) (at : ℕ) → type_end sig in_arr l at ≡ type_step in_arr (array_part sig l (at + 1)) (structure_part sig l (at + 1)) (entry_part sig l (at + 1)) sig at
 unfolding type_end
-type-here sig in_arr l at = here sig in_arr l at l.all refl
-
-pub ruleset walk = (type-here)
+type_here sig in_arr l at = here sig in_arr l at l.all refl
 
 -- 0 is no type code, so what has one is inside
 pub none_past : (sig : List ℕ) (at : ℕ) → length sig ≤ at → None ≡ code_of (get_or sig at 0)

@@ -75,7 +75,7 @@ impl TryFrom<u8> for Code {
 
     ghost try_from_gives = { Coded };
 
-    #[tactic(auto, using(crate::proofs::Table::letters), unfolding(crate::specs::Codes::align_of))]
+    #[tactic(auto, using(crate::proofs::Table::lookup_codes), unfolding(crate::specs::Codes::align_of))]
     fn try_from(letter: u8) -> Result<Self, UnknownCode> {
         find(&CODES, letter).ok_or(UnknownCode(letter))
     }

@@ -1,4 +1,5 @@
 // Signatures: whether bytes are one, and where their first single complete type ends.
+// Each end comes with its bound: a caller goes on from there, and no type holds it.
 #![tactic(auto)]
 
 ghost use Rattle.std.specs.Prelude.{◌≡◌, ◌<◌, IfSome, false, length, slice_index};
@@ -25,7 +26,7 @@ pub fn code_at(signature: &[u8], at: usize) -> Option<Code>
 // Where the single complete type at `at` ends. A dictionary entry stands only in an array.
 // The place and the levels differ at each call: a struct of them and the signature would be made anew each time.
 #[cycle(entry_end_fields_end_type_end)]
-#[tactic(auto, using(crate::proofs::Types::walk))]
+#[tactic(auto, using(crate::proofs::Types::type_here))]
 pub fn type_end(signature: &[u8], at: usize, in_array: bool, levels: Levels) -> Option<usize>
     ensures value { result ≡ type_end signature.now in_array levels at }
     ensures inside { Inside signature.now at result }

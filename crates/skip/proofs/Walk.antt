@@ -40,8 +40,6 @@ module _ (order : ByteOrder) (msg : List ℕ) where
 
   module _ (l : Levels) (sig : List ℕ) (at pos : ℕ) where
     -- the definition's recursion, without its counter
-    pub value-here : value_end order msg l sig at pos ≡ value_step order msg (array_part l sig (at + 1) pos) (bracket_part 41 l sig (at + 1) pos) (bracket_part 125 l sig (at + 1) pos) (variant_part l pos) sig at pos
+    pub value_here : value_end order msg l sig at pos ≡ value_step order msg (array_part l sig (at + 1) pos) (bracket_part 41 l sig (at + 1) pos) (bracket_part 125 l sig (at + 1) pos) (variant_part l pos) sig at pos
     unfolding value_end
-    value-here = here l sig at pos l.all refl
-
-pub ruleset walk = (value-here)
+    value_here = here l sig at pos l.all refl

@@ -1,4 +1,5 @@
 // Past a value of any type, whatever stands inside it, by the rules that reading has.
+// Each end comes with its bound: a caller goes on from there, and no type holds it.
 #![tactic(auto)]
 
 ghost use Rattle.std.specs.Prelude.{◌≡◌, ◌<◌, IfSome};
@@ -59,7 +60,7 @@ struct Walker<'m, 's> {
 impl<'m, 's> Walker<'m, 's> {
     // Past one value: where its type ends in the signature, and where it ends in the message.
     #[cycle(walk)]
-    #[tactic(auto, using(crate::proofs::Walk::walk))]
+    #[tactic(auto, using(crate::proofs::Walk::value_here))]
     fn value(self, at: usize, pos: usize, levels: Levels) -> Option<(usize, usize)>
         ensures value { result ≡ value_end self.entry.reader.order self.entry.reader.message.now levels self.entry.signature.now at pos }
         ensures ahead { Ahead self.entry.reader.message.now self.entry.signature.now at pos result }

@@ -1,5 +1,5 @@
 // Reading values from a lent message. A place is an offset from the message's first byte.
-// Each reader says where its end lies: a caller that goes on from there needs the bound, and no type holds it.
+// Each end comes with its bound: a caller goes on from there, and no type holds it.
 ghost use Rattle.std.specs.Prelude.{◌≡◌, ◌+◌, ◌<◌, ◌≤◌, length};
 ghost use Rattle.signature.specs.Codes.{align_of};
 ghost use Rattle.wire.specs.Reading.{Onward, Ordered, Grown, Past, align_at, bool_at, byte_at, bytes_at, counted_at, ended_at, fault_for, fixed_at, gap, path_at, seen, signature_at, string_at, text_at, u32_at, valid_for, word_of};
