@@ -1,13 +1,12 @@
-use Rattle.std.proofs.Common.{◌≡◌, ◌≤◌, length, Some, option_map, sym, ap, ◌∙◌, arith}
-use Rattle.std.proofs.lemmas.List.{take_all}
+use Rattle.std.proofs.Common.{◌≡◌, ◌≤◌, Some, option_map, sym, ap, ◌∙◌, arith}
 use Rattle.std.specs.Borrow.{Bor}
 use Rattle.std.specs.List.{slice_get}
-use Rattle.outbox.specs.Marshal.{Bytes, many}
+use Rattle.outbox.specs.Marshal.{Bytes}
 use Rattle.outbox.specs.Pours.{room}
 use Rattle.signals.specs.Bodies.{put_property}
 use Rattle.signals.specs.Readable.{announced}
 use Rattle.signals.proofs.Loops.{poured-none}
-use Rattle.signals.proofs.Pieces.{as_many, name-there, poured-as, property-more, property-stuck, poured-fails}
+use Rattle.signals.proofs.Pieces.{name-there, property-more, property-stuck, poured-fails}
 use Rattle.signals.proofs.bodies.put_properties.Goals as goal
 
 pub unwrap-name-requires : goal.unwrap-name-requires
@@ -29,11 +28,3 @@ loop-k-preserved g c =
     let it = c.args.instance.now in
     let here : Some c.unwrap-name.result.now ≡ option_map (λ p. p.name) (slice_get (announced (g.B.Bank.models it.bank.now) it.number).properties c.loop-k.k) = ap (option_map (λ (x : Bor Bytes). x.now)) (sym c.unwrap-name.ensures) ∙ c.property_name.ensures in
     property-more _ _ _ _ _ _ it.values.now c.loop-k.k _ _ c.value-item.result it.read c.value-item.is here c.loop-k.invariant _ c.in_ok-at.ensures
-
-pub returns : goal.returns
-returns g c =
-    let it = c.args.instance.now in
-    let ps = (announced (g.B.Bank.models it.bank.now) it.number).properties in
-    let e : length it.values.now ≡ length ps = as_many it.values.now ps it.read in
-    let le : length ps ≤ c.loop-k.k = omega arith in
-    poured-as _ _ _ _ _ _ (ap (many put_property) (take_all c.loop-k.k ps le)) c.loop-k.invariant
