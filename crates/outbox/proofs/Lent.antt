@@ -54,13 +54,6 @@ module _ (was ys : Bytes) (s from k : ℕ) (is-from : from ≡ min s (length was
       (λ le. let e : from ≡ s = omega arith in ap (λ n. drop n was) e)
       (cases_lt (length was) s)
 
-pub take_min : (n m : ℕ) (xs : Bytes) → m ≡ min (length xs) n → take (m - 0) xs ≡ take n xs
-take_min n m xs e =
-    ⊎_elim
-    (λ lt. take_all (m - 0) xs (omega arith) ∙ sym (take_all n xs (omega arith)))
-    (λ le. let k : m - 0 ≡ n = omega arith in ap (λ i. take i xs) k)
-    (cases_lt (length xs) n)
-
 take_more : (n m : ℕ) (xs : Bytes) → take (n + m) xs ≡ take n xs ++ take m (drop n xs)
 take_more n m xs =
     sym (take-append-drop n (take (n + m) xs)) ∙ ap (λ l. l ++ drop n (take (n + m) xs)) (take-take n (n + m) xs (omega arith)) ∙ ap (λ l. take n xs ++ l) (drop-take n m xs)
