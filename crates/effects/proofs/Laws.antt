@@ -1,16 +1,9 @@
 -- What the law of an interface says of its parts.
-use Rattle.std.proofs.Common.{◌≡◌, ℕ, zero, suc, ◌^◌, ◌<◌, ◌≤◌, Bool, true, false, List, [], ◌∷◌, map, length, Some, ap, ◌∙◌, arith}
+use Rattle.std.proofs.Common.{◌≡◌, ◌^◌, ◌<◌, ◌≤◌, true, false, map, length}
 use Rattle.std.proofs.lemmas.Bool.{and_parts, leb-true, ltb-true, not-true}
-use Rattle.std.specs.List.{slice_get}
 use Rattle.names.specs.Names.{all, valid_interface}
 use Rattle.names.specs.Standard.{is_standard}
 use Rattle.effects.specs.Model.{InterfaceModel, ascending, well_property, well_method, well_formed}
-
--- what holds of all holds of the one at a place
-pub all-nth : {X : Type 0} (f : X → Bool) (xs : List X) (i : ℕ) (x : X) → all f xs ≡ true → slice_get xs i ≡ Some x → f x ≡ true
-all-nth f [] i x h e = absurd (let z : ◌≡◌ {A = ℕ} 0 1 = cc in omega arith)
-all-nth f (y ∷ ys) zero x h e = let s : x ≡ y = cc in ap f s ∙ (and_parts (f y) (all f ys) h).0
-all-nth f (y ∷ ys) (suc i) x h e = all-nth f ys i x (and_parts (f y) (all f ys) h).1 e
 
 pub record Lawful (m : InterfaceModel) : Type 0 where
   pub named : valid_interface m.name ≡ true

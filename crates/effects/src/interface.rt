@@ -21,7 +21,7 @@ pub struct PropertyInfo<'a> {
     pub access: Access,
 }
 
-// The properties cannot be read: why, as a number that is not 0.
+// The properties cannot be read: why, as a number that is not 0. The rule tells faults by numbers.
 #[derive(Clone, Copy, Debug, PartialEq, Eq)]
 pub struct PropertyFault {
     pub number: u32,

@@ -1,7 +1,7 @@
 // One header field: a code byte and a variant, on a boundary of 8.
-// Each end comes with its bound: a caller goes on from there, and no type holds it.
+// Each end comes with its bound beside it: a struct of bytes and place would be made anew at each step, and be no shorter.
 ghost use Rattle.std.specs.Prelude.{◌≡◌, Bool, Err, IsOkAnd, MatchBool, MatchResult};
-ghost use Rattle.names.specs.Names.{valid_bus, valid_interface, valid_member, valid_unique};
+ghost use Rattle.names.specs.Names.{valid, valid_bus};
 ghost use Rattle.message.specs.declared.field.Flaw.TheVariants.{BadValue};
 ghost use Rattle.message.specs.Fields.{After, Further, Known, fault_of, field_seen, known_at, padded, type_of, typed_at, unknown_at, valid_sender, value_in};
 
@@ -86,36 +86,23 @@ impl Flaw {
     }
 }
 
-// An interface's name, or an error's.
-fn is_interface(text: &[u8]) -> bool
-    ensures { result ≡ valid_interface text.now }
+fn is_name(text: &[u8], alphabet: Alphabet) -> bool
+    ensures { result ≡ valid alphabet text.now }
 {
-    Alphabet::Name.check(text).is_ok()
-}
-
-fn is_member(text: &[u8]) -> bool
-    ensures { result ≡ valid_member text.now }
-{
-    Alphabet::Member.check(text).is_ok()
-}
-
-fn is_unique(text: &[u8]) -> bool
-    ensures { result ≡ valid_unique text.now }
-{
-    Alphabet::Unique.check(text).is_ok()
+    alphabet.check(text).is_ok()
 }
 
 fn is_bus_name(text: &[u8]) -> bool
     ensures { result ≡ valid_bus text.now }
 {
-    is_unique(text) || Alphabet::WellKnown.check(text).is_ok()
+    is_name(text, Alphabet::Unique) || is_name(text, Alphabet::WellKnown)
 }
 
 #[tactic(auto, unfolding(crate::specs::Fields::valid_sender))]
 fn is_sender(text: &[u8]) -> bool
     ensures { result ≡ valid_sender text.now }
 {
-    is_unique(text) || text == BUS
+    is_name(text, Alphabet::Unique) || text == BUS
 }
 
 // What was read, as a field, if it passes the test.
@@ -191,9 +178,21 @@ impl FieldCode {
     {
         match self {
             FieldCode::Path => taken(reader.read_path(at), |_| true, Field::Path),
-            FieldCode::Interface => taken(reader.read_string(at), is_interface, Field::Interface),
-            FieldCode::Member => taken(reader.read_string(at), is_member, Field::Member),
-            FieldCode::ErrorName => taken(reader.read_string(at), is_interface, Field::ErrorName),
+            FieldCode::Interface => taken(
+                reader.read_string(at),
+                |text| is_name(text, Alphabet::Name),
+                Field::Interface,
+            ),
+            FieldCode::Member => taken(
+                reader.read_string(at),
+                |text| is_name(text, Alphabet::Member),
+                Field::Member,
+            ),
+            FieldCode::ErrorName => taken(
+                reader.read_string(at),
+                |text| is_name(text, Alphabet::Name),
+                Field::ErrorName,
+            ),
             FieldCode::ReplySerial => taken(reader.read_u32(at), |n| n != 0, Field::ReplySerial),
             FieldCode::Destination => taken(
                 reader.read_string(at),

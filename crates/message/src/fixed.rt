@@ -4,8 +4,6 @@ ghost use Rattle.message.specs.Fixed.{Inside, Typed, fixed_of, lengths_meet, rai
 
 use crate::fault::HeaderFault;
 use signature::codes::Code;
-use std::error::Error;
-use std::fmt;
 use wire::reading::{ByteOrder, Reader, gap_to};
 
 // The bytes of the fixed part.
@@ -47,14 +45,6 @@ impl TryFrom<u8> for MessageType {
         }
     }
 }
-
-impl fmt::Display for InvalidType {
-    fn fmt<W: fmt::Write>(&self, f: &mut fmt::Formatter<W>) -> fmt::Result {
-        write!(f, "no message has the type {}", self.0)
-    }
-}
-
-impl Error for InvalidType {}
 
 // What the fixed part says.
 #[derive(Clone, Copy)]

@@ -58,7 +58,7 @@ fn agrees(expected: &str, message: &[u8]) -> bool {
     match Header::call(message) {
         Ok(_) => expected == "ok" && Header::read(message).is_ok(),
         Err(fault) => {
-            // As a message of any type it is refused for the same reason, unless all that it is not is a call.
+            // As a message of any type it is refused for the same reason, unless its only fault is that it is no call.
             let any_type = Header::read(message).err().unwrap_or(HeaderFault::NotACall);
             any_type == fault && refused(expected, fault)
         }

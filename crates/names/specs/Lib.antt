@@ -5,3 +5,4 @@ pub mod Paths
 pub mod Standard
 pub mod Kinds
 pub mod Buses
+pub mod Printed

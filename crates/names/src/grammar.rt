@@ -1,6 +1,7 @@
-ghost use Rattle.std.specs.Prelude.{◌≡◌, true, length, is_ok, IfErr, nat_le};
+ghost use Rattle.std.specs.Prelude.{◌≡◌, true, length, is_ok, IfErr, nat_le, Some};
 ghost use Rattle.names.specs.Names.{letter, word, pieces, valid};
 ghost use Rattle.names.specs.Scan.{step};
+ghost use Rattle.names.specs.Printed.{reason_text, invalid_text};
 ghost use Rattle.names.specs.Faults.{Checked, lead, separates, opens, goes_on, spells, several, after_lead, good, fits, reason_at, Refusal};
 
 use std::error::Error;
@@ -147,6 +148,7 @@ impl Alphabet {
     {
         match self {
             Alphabet::Path if s.is_empty() => Ok(()),
+            // Not joined with the next arm: the proof would not learn which of the two it is.
             Alphabet::Path => self.check_elements(s),
             Alphabet::Member => self.check_elements(s),
             Alphabet::Name | Alphabet::WellKnown | Alphabet::Unique => self.check_several(s),
@@ -208,6 +210,8 @@ impl Alphabet {
 }
 
 impl fmt::Display for Reason {
+    ghost output = { λ r. Some (reason_text r) };
+
     fn fmt<W: fmt::Write>(&self, f: &mut fmt::Formatter<W>) -> fmt::Result {
         match self {
             Reason::TooLong => write!(f, "a name has at most {MAX_NAME} bytes"),
@@ -215,12 +219,14 @@ impl fmt::Display for Reason {
             Reason::Expected(b) => write!(f, "it must begin with '{}'", *b as char),
             Reason::EmptyElement => write!(f, "an element is empty"),
             Reason::LeadingDigit => write!(f, "an element may not begin with a digit"),
-            Reason::Forbidden(b) => write!(f, "byte {b:#04x} may not stand here"),
+            Reason::Forbidden(b) => write!(f, "byte 0x{b:02x} may not stand here"),
         }
     }
 }
 
 impl fmt::Display for Invalid {
+    ghost output = { λ i. Some (invalid_text i) };
+
     fn fmt<W: fmt::Write>(&self, f: &mut fmt::Formatter<W>) -> fmt::Result {
         write!(f, "byte {}: {}", self.place, self.why)
     }

@@ -30,7 +30,7 @@ pub struct Name<'a, K: Kind> {
 
 impl<'a, K: Kind> Copy for Name<'a, K> {}
 
-// By hand: `Clone` is not derived for a generic struct with a ghost field.
+// By hand: of a generic struct the check says "`Clone` cannot be derived for a struct with a ghost field".
 impl<'a, K: Kind> Clone for Name<'a, K> {
     ghost is_clone = { λ n m. m ≡ n };
 
@@ -63,6 +63,8 @@ impl<'a, K: Kind> Name<'a, K> {
         self.bytes
     }
 }
+
+// A block for each kind: the gate refuses an impl that a macro of the repository writes.
 
 // The kind of `ObjectPath`.
 #[derive(Clone, Copy, PartialEq, Eq, PartialOrd, Ord, Debug)]

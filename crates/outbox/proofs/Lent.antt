@@ -1,8 +1,6 @@
 -- A draft's part of the lent bytes, and what an outbox then holds.
-use Rattle.std.proofs.Common.{◌≡◌, ℕ, ◌+◌, ◌-◌, ◌<◌, ◌≤◌, min, ◌++◌, length, take, drop, Ok, Err, Result, sym, refl, ap, ◌∙◌, ⊎_elim, arith, length-append, length-drop}
-use borrow.Rule.Slice.PartMut.{put_mid}
-use Rattle.std.proofs.lemmas.List.{append-nil, drop_all, drop_at, drop-take, length-take-le, nil_from_length, take_all, take-append-drop, take_at, take_rest, take-take}
-use Rattle.std.proofs.lemmas.Bool.{cases_lt}
+use Rattle.std.proofs.Common.{◌≡◌, ℕ, ◌+◌, ◌<◌, ◌≤◌, ◌++◌, length, take, drop, Ok, Err, Result, sym, refl, ap, ◌∙◌, arith}
+use Rattle.std.proofs.lemmas.List.{drop-take, take-append-drop, take_at, take-take}
 use Rattle.outbox.specs.declared.drafts.Draft.{Draft}
 use Rattle.outbox.specs.Drafts.{Went, drafted, reached}
 use Rattle.outbox.specs.Marshal.{Bytes, Part, ◌▹◌}
@@ -11,48 +9,6 @@ use Rattle.outbox.proofs.Chains.{poured-stops, poured-then}
 
 pub poured-at : {E : Type 0} (a a' b b' : Bytes) (f f' : ℕ) (r r' : Result ℕ E) (w : Part) → a ≡ a' → b ≡ b' → f ≡ f' → r ≡ r' → Poured a f b r w → Poured a' f' b' r' w
 poured-at a a' b b' f f' r r' w p q s t h = rw (sym p, sym q, sym s, sym t) h
-
--- bytes[from..], lent to a write that leaves ys in it, where the message begins at s
-module _ (was ys : Bytes) (s from k : ℕ) (is-from : from ≡ min s (length was)) (is-k : k ≡ length was - from) (size : length ys ≡ length was - from) where
-  whole : put_mid from k was ys ≡ take from was ++ ys
-  whole =
-      ap (λ z. take from was ++ (ys ++ z)) (drop_all k (drop from was) (omega (arith, length-drop from was)))
-      ∙ ap (λ z. take from was ++ z) (append-nil ys)
-
-  front : length (take from was) ≡ from
-  front = length-take-le from was (omega arith)
-
-  whole-size : length (take from was ++ ys) ≡ length was
-  whole-size = length-append (take from was) ys ∙ omega (arith, front)
-
-  pub lent-size : length (put_mid from k was ys) ≡ length was
-  lent-size = ap length whole ∙ whole-size
-
-  pub lent-part : drop s (put_mid from k was ys) ≡ ys
-  lent-part =
-      ap (drop s) whole
-      ∙ ⊎_elim
-      (λ lt. drop_all s (take from was ++ ys) (omega (arith, whole-size)) ∙ sym (nil_from_length ys (omega arith)))
-      (λ le. drop_at (take from was) ys s (omega (arith, front)))
-      (cases_lt (length was) s)
-
-  pub lent_below : take s (put_mid from k was ys) ≡ take s was
-  lent_below =
-      ap (take s) whole
-      ∙ ⊎_elim
-      (λ lt.
-      take_all s (take from was ++ ys) (omega (arith, whole-size))
-      ∙ ap (λ z. take from was ++ z) (nil_from_length ys (omega arith)) ∙ append-nil (take from was) ∙ take_all from was (omega arith) ∙ sym (take_all s was (omega arith)))
-      (λ le. let e : from ≡ s = omega arith in take_at (take from was) ys s (omega (arith, front)) ∙ ap (λ n. take n was) e)
-      (cases_lt (length was) s)
-
-  pub lent-was : take k (drop from was) ≡ drop s was
-  lent-was =
-      ap (λ n. take n (drop from was)) is-k ∙ take_rest was from
-      ∙ ⊎_elim
-      (λ lt. drop_all from was (omega arith) ∙ sym (drop_all s was (omega arith)))
-      (λ le. let e : from ≡ s = omega arith in ap (λ n. drop n was) e)
-      (cases_lt (length was) s)
 
 take_more : (n m : ℕ) (xs : Bytes) → take (n + m) xs ≡ take n xs ++ take m (drop n xs)
 take_more n m xs =

@@ -1,8 +1,9 @@
 // A plan of a chain of effects: which of its lines can be placed by their names, and if not, why and where.
 #![tactic(auto)]
 
-ghost use Rattle.std.specs.Prelude.{◌≡◌, ◌<◌, true, false, length, is_ok, IfOk, IfErr, MatchOption};
+ghost use Rattle.std.specs.Prelude.{◌≡◌, ◌<◌, true, false, length, is_ok, IfOk, IfErr, MatchOption, Some};
 ghost use Rattle.names.specs.Paths.{makeable};
+ghost use Rattle.plan.specs.Printed.{limit_text, fault_text, what_text};
 ghost use Rattle.plan.specs.Plans.{what_of, is_make, placeable, Unmakeable, limit_at, Told};
 
 use names::grammar::Invalid;
@@ -100,6 +101,8 @@ pub fn judge(path: &[u8], word: &[u8]) -> Result<What, Fault>
 }
 
 impl fmt::Display for Limit {
+    ghost output = { λ x. Some (limit_text x) };
+
     fn fmt<W: fmt::Write>(&self, f: &mut fmt::Formatter<W>) -> fmt::Result {
         match self {
             Limit::Bytes => write!(f, "a node's path has at most 255 bytes"),
@@ -110,6 +113,8 @@ impl fmt::Display for Limit {
 }
 
 impl fmt::Display for Fault {
+    ghost output = { λ x. Some (fault_text x) };
+
     fn fmt<W: fmt::Write>(&self, f: &mut fmt::Formatter<W>) -> fmt::Result {
         match self {
             Fault::Path(invalid) => write!(f, "path, {invalid}"),
@@ -122,6 +127,8 @@ impl fmt::Display for Fault {
 impl Error for Fault {}
 
 impl fmt::Display for What {
+    ghost output = { λ x. Some (what_text x) };
+
     fn fmt<W: fmt::Write>(&self, f: &mut fmt::Formatter<W>) -> fmt::Result {
         match self {
             What::Delay => write!(f, "a Delay"),

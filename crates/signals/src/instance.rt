@@ -41,7 +41,7 @@ impl<'b, B: Bank> Instance<'b, B> {
         })
     }
 
-    // Its name; one that the bank does not have has the empty one.
+    // Its name; empty if the bank does not have it.
     pub(crate) fn name(&self) -> &[u8]
         ensures { result.now ≡ (announced (B.Bank.models self.now.bank.now) self.now.number).name }
     {

@@ -2,9 +2,6 @@
 ghost use Rattle.std.specs.Prelude.{◌≡◌, ◌<◌, ◌≤◌};
 ghost use Rattle.signature.specs.Codes.{Coded, align_of, basic, lookup};
 
-use std::error::Error;
-use std::fmt;
-
 #[derive(Clone, Copy, Debug)]
 pub enum Code {
     Byte,
@@ -80,14 +77,6 @@ impl TryFrom<u8> for Code {
         find(&CODES, letter).ok_or(UnknownCode(letter))
     }
 }
-
-impl fmt::Display for UnknownCode {
-    fn fmt<W: fmt::Write>(&self, f: &mut fmt::Formatter<W>) -> fmt::Result {
-        write!(f, "no type has the letter {}", self.0)
-    }
-}
-
-impl Error for UnknownCode {}
 
 impl Code {
     // The boundary on which a value of this code begins.

@@ -1,5 +1,5 @@
 // Signatures: whether bytes are one, and where their first single complete type ends.
-// Each end comes with its bound: a caller goes on from there, and no type holds it.
+// Each end comes with its bound beside it: a struct of bytes and place would be made anew at each step, and be no shorter.
 #![tactic(auto)]
 
 ghost use Rattle.std.specs.Prelude.{◌≡◌, ◌<◌, IfSome, false, length, slice_index};

@@ -1,5 +1,5 @@
 // Reading values from a lent message. A place is an offset from the message's first byte.
-// Each end comes with its bound: a caller goes on from there, and no type holds it.
+// Each end comes with its bound beside it: a struct of bytes and place would be made anew at each step, and be no shorter.
 ghost use Rattle.std.specs.Prelude.{◌≡◌, ◌+◌, ◌<◌, ◌≤◌, length};
 ghost use Rattle.signature.specs.Codes.{align_of};
 ghost use Rattle.wire.specs.Reading.{Onward, Ordered, Grown, Past, align_at, bool_at, byte_at, bytes_at, counted_at, ended_at, fault_for, fixed_at, gap, path_at, seen, signature_at, string_at, text_at, u32_at, valid_for, word_of};
@@ -7,8 +7,6 @@ ghost use Rattle.wire.specs.Reading.{Onward, Ordered, Grown, Past, align_at, boo
 use crate::text::{all_zero, is_path, is_text};
 use signature::codes::Code;
 use signature::is_signature;
-use std::error::Error;
-use std::fmt;
 
 #[derive(Clone, Copy, Debug, PartialEq, Eq)]
 pub enum ByteOrder {
@@ -65,14 +63,6 @@ impl TryFrom<u8> for ByteOrder {
     }
 }
 
-impl fmt::Display for UnknownByteOrder {
-    fn fmt<W: fmt::Write>(&self, f: &mut fmt::Formatter<W>) -> fmt::Result {
-        write!(f, "no byte order has the letter {}", self.0)
-    }
-}
-
-impl Error for UnknownByteOrder {}
-
 // How far the next boundary for values of this code is.
 #[tactic(auto, unfolding(crate::specs::Reading::gap))]
 pub fn gap_to(code: Code, at: usize) -> usize
@@ -84,9 +74,7 @@ pub fn gap_to(code: Code, at: usize) -> usize
     (alignment - at % alignment) % alignment
 }
 
-// What needs no byte order takes the bytes and a place alone: so nobody has to name an order for it.
-
-// Past `n` bytes.
+// Past `n` bytes. This and what else needs no byte order takes the bytes and a place alone: nobody has to name an order for it.
 fn bytes_end(message: &[u8], at: usize, n: usize) -> Result<usize, Fault>
     ensures value { result ≡ bytes_at n message.now at }
     ensures within { Onward message.now at result }
@@ -208,13 +196,7 @@ impl<'m> Reader<'m> {
         requires { at + 4 ≤ length self.message.now }
         ensures { result ≡ word_of self.entry.order self.entry.message.now at }
     {
-        let message = self.message;
-        let bytes = [
-            message[at],
-            message[at + 1],
-            message[at + 2],
-            message[at + 3],
-        ];
+        let bytes: [u8; 4] = self.message[at..at + 4].try_into().unwrap();
         match self.order {
             ByteOrder::Little => u32::from_le_bytes(bytes),
             ByteOrder::Big => u32::from_be_bytes(bytes),

@@ -277,7 +277,21 @@ fn levels(rt: HostRuntime) {
     };
     assert_eq!(rt; skip(reader, deep, 0, full), Ok(129));
     let refused = Err(Fault::Value(0));
-    assert_eq!(rt; skip(reader, deep, 0, Levels { arrays: 31, ..full }), refused);
-    assert_eq!(rt; skip(reader, deep, 0, Levels { structures: 31, ..full }), refused);
+    assert_eq!(rt;
+        skip(reader, deep, 0, Levels { arrays: 31, ..full }),
+        refused
+    );
+    assert_eq!(rt;
+        skip(
+            reader,
+            deep,
+            0,
+            Levels {
+                structures: 31,
+                ..full
+            }
+        ),
+        refused
+    );
     assert_eq!(rt; skip(reader, deep, 0, Levels { all: 63, ..full }), refused);
 }
