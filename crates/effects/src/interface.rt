@@ -36,7 +36,7 @@ pub enum SetRefusal {
     OutOfRange,
 }
 
-// What became of a call that was handed to an interface.
+// What became of a call that was handed to an interface: the cases and names of the crate that this is a port of.
 #[derive(Clone, Copy, Debug, PartialEq, Eq)]
 pub enum DispatchResult2<'call> {
     // The interface does not have the method.

@@ -85,7 +85,7 @@ impl Text {
         }
     }
 
-    // None unless there are at most 64 bytes, each 32 to 126.
+    // None unless there are at most 64 bytes, each 32 to 126. No `TryFrom`: it refuses in one way, which an error would only name.
     pub fn new(from: &[u8]) -> Option<Text>
         ensures { option_map text_of result ≡ as_text from.now }
     {

@@ -145,7 +145,7 @@ impl TryFrom<u8> for FieldCode {
 }
 
 impl FieldCode {
-    // The letter of its type.
+    // The letter of its type. A method, since `u8::from(code)` would not say which number it is.
     fn letter(self) -> u8
         ensures { result ≡ type_of self }
     {

@@ -1,4 +1,4 @@
-// The fields of a header, each at most once.
+// The fields of a header, each at most once. An end comes with its bound beside it, as in the reading of one field.
 ghost use Rattle.std.specs.Prelude.{◌≡◌, ℕ, ◌+◌, ◌<◌, ◌≤◌, length, is_some, None};
 ghost use Rattle.message.specs.Fields.{After, number_of};
 ghost use Rattle.message.specs.Headers.{entered, entered_all, field_at, fields_of, fields_seen, found_seen, look, noted};

@@ -1,4 +1,5 @@
-// The fixed part of a header: its first sixteen bytes.
+// The fixed part of a header: its first sixteen bytes. That the lengths in it stay inside the message is said beside it: a
+// struct of message and lengths would be made for one caller.
 ghost use Rattle.std.specs.Prelude.{◌≡◌, ◌+◌, ◌<◌, ◌≤◌, length, IfSome, IfOk};
 ghost use Rattle.message.specs.Fixed.{Inside, Typed, fixed_of, lengths_meet, raised, sound_fixed, word_at};
 

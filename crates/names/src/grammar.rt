@@ -148,7 +148,7 @@ impl Alphabet {
     {
         match self {
             Alphabet::Path if s.is_empty() => Ok(()),
-            // Not joined with the next arm: the proof would not learn which of the two it is.
+            // Not joined with the next arm: of the two in one the check says "no proof of `0 < length c.args.s.now` was found".
             Alphabet::Path => self.check_elements(s),
             Alphabet::Member => self.check_elements(s),
             Alphabet::Name | Alphabet::WellKnown | Alphabet::Unique => self.check_several(s),

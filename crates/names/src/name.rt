@@ -28,9 +28,9 @@ pub struct Name<'a, K: Kind> {
     pub ghost valid: { K.is_valid bytes.now ≡ true },
 }
 
+// Both by hand: of a generic struct the check says "`Clone` cannot be derived for a struct with a ghost field".
 impl<'a, K: Kind> Copy for Name<'a, K> {}
 
-// By hand: of a generic struct the check says "`Clone` cannot be derived for a struct with a ghost field".
 impl<'a, K: Kind> Clone for Name<'a, K> {
     ghost is_clone = { λ n m. m ≡ n };
 

@@ -42,6 +42,7 @@ fn split_byte(text: &[u8]) -> Option<(u8, &[u8])>
 // The bytes that a text stands for.
 fn unescaped(heap: Global, text: &[u8]) -> Result<Vec<u8>, AllocError> {
     let mut bytes = Vec::new(heap);
+    // An escape's length moves the place: no iterator knows it.
     let mut left = text;
     while let Some((value, rest)) = split_byte(left) {
         bytes.push(value)?;

@@ -43,6 +43,7 @@ impl Mark {
 }
 
 // A message that is being written, after what the mark holds. Unless it is kept, the mark goes back to where it was.
+// No ghost field `start ≤ mark.now.fill`: the check says "import cycle", since the definitions of drafts name this struct.
 pub struct Draft<'a> {
     mark: &'a mut Mark,
     start: usize,

@@ -21,15 +21,19 @@ fn show_property(rt: &HostRuntime, info: PropertyInfo<'_>, value: &Value) -> any
 // The properties of an effect, or why they cannot be read.
 fn show_properties<B: Bank>(rt: &HostRuntime, bank: &B, i: usize) -> anyhow::Result<()> {
     let mut values = [Value::Bool(false); 16];
-    if let Ok(Err(fault)) = bank.get_all(i, &mut values) {
-        let number = fault.number;
-        println!(rt; "    fault {number}: its values cannot be read")?;
-        return Ok(());
-    }
-    for (k, value) in values.iter().enumerate() {
-        if let Ok(Some(info)) = bank.property(i, k) {
-            show_property(rt, info, value)?;
+    match bank.get_all(i, &mut values) {
+        Ok(Ok(count)) => {
+            for (k, value) in values.iter().take(count).enumerate() {
+                if let Ok(Some(info)) = bank.property(i, k) {
+                    show_property(rt, info, value)?;
+                }
+            }
         }
+        Ok(Err(fault)) => {
+            let number = fault.number;
+            println!(rt; "    fault {number}: its values cannot be read")?;
+        }
+        Err(_) => {}
     }
     Ok(())
 }

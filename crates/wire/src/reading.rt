@@ -19,7 +19,7 @@ pub enum ByteOrder {
 pub struct UnknownByteOrder(pub u8);
 
 // The types that are marshalled as a length and a text: each has a test and a fault of its own.
-// An enum, and not two functions passed along: the contracts name the type.
+// An enum: a test and a fault would be two closures at each call, and the definitions go by the type.
 #[derive(Clone, Copy)]
 enum StringLike {
     String,
