@@ -13,7 +13,7 @@ ghost use Rattle.effects.specs.DelayInterfaceLemmas.{checks};
 
 use crate::delay::Delay;
 use crate::interface::{
-    Access, DispatchResult2, Interface, PropertyFault, PropertyInfo, SetRefusal,
+    Access, DispatchResult2, Interface, PropertyFault, PropertyInfo, SetRefusal, Tables,
 };
 use crate::text::Text;
 use crate::value::{Signature, Value};
@@ -107,12 +107,20 @@ impl Interface for Delay {
         b"com.example.Pedal.Delay"
     }
 
-    fn properties(&self) -> &[PropertyInfo<'_>] {
-        &PROPERTIES
+    fn property_count(&self) -> usize {
+        self.properties().len()
     }
 
-    fn methods(&self) -> &[&[u8]] {
-        &METHODS
+    fn property(&self, i: usize) -> Option<PropertyInfo<'_>> {
+        self.properties().get(i).copied()
+    }
+
+    fn method_count(&self) -> usize {
+        self.methods().len()
+    }
+
+    fn method(&self, i: usize) -> Option<&[u8]> {
+        self.methods().get(i).copied()
     }
 
     fn get(&self, name: &[u8], into: &mut Value) -> Option<Result<(), PropertyFault>> {
@@ -157,5 +165,15 @@ impl Interface for Delay {
             }
             _ => DispatchResult2::NotFound,
         }
+    }
+}
+
+impl Tables for Delay {
+    fn properties(&self) -> &[PropertyInfo<'_>] {
+        &PROPERTIES
+    }
+
+    fn methods(&self) -> &[&[u8]] {
+        &METHODS
     }
 }

@@ -54,37 +54,19 @@ pub trait Interface {
     fn name(&self) -> &[u8]
         ensures { result.now ≡ (model self.now).name };
 
-    // The properties by ascending name: a property's number is its place here.
-    fn properties(&self) -> &[PropertyInfo<'_>]
-        ensures { map seen_info result.now ≡ map info_of (model self.now).properties };
-
-    // The methods' names in ascending order.
-    fn methods(&self) -> &[&[u8]]
-        ensures { map (λ x. x.now) result.now ≡ map (λ k. k.name) (model self.now).methods };
-
     fn property_count(&self) -> usize
-        ensures { result ≡ length (model self.now).properties }
-    {
-        self.properties().len()
-    }
+        ensures { result ≡ length (model self.now).properties };
 
+    // The properties are numbered by ascending name.
     fn property(&self, i: usize) -> Option<PropertyInfo<'_>>
-        ensures { option_map seen_info result ≡ option_map info_of (slice_get (model self.now).properties i) }
-    {
-        self.properties().get(i).copied()
-    }
+        ensures { option_map seen_info result ≡ option_map info_of (slice_get (model self.now).properties i) };
 
     fn method_count(&self) -> usize
-        ensures { result ≡ length (model self.now).methods }
-    {
-        self.methods().len()
-    }
+        ensures { result ≡ length (model self.now).methods };
 
+    // The methods' names, numbered in ascending order.
     fn method(&self, i: usize) -> Option<&[u8]>
-        ensures { option_map (λ x. x.now) result ≡ option_map (λ k. k.name) (slice_get (model self.now).methods i) }
-    {
-        self.methods().get(i).copied()
-    }
+        ensures { option_map (λ x. x.now) result ≡ option_map (λ k. k.name) (slice_get (model self.now).methods i) };
 
     // None if there is no such property. The value goes into a place that the caller lends, as do those of `get_all`: no
     // memory is allocated for them.
@@ -118,4 +100,15 @@ pub trait Interface {
         ensures after { model self.new ≡ after_call name.now (model self.old) };
 
     ghost well: { (x : Self) → well_formed (model x) ≡ true };
+}
+
+// An interface that has its properties and methods in tables. Not every interface has: the names may be its own.
+pub trait Tables: Interface {
+    // The properties by ascending name: a property's number is its place here.
+    fn properties(&self) -> &[PropertyInfo<'_>]
+        ensures { map seen_info result.now ≡ map info_of (Self.model self.now).properties };
+
+    // The methods' names in ascending order: a method's number is its place here.
+    fn methods(&self) -> &[&[u8]]
+        ensures { map (λ x. x.now) result.now ≡ map (λ k. k.name) (Self.model self.now).methods };
 }

@@ -11,7 +11,7 @@ ghost use Rattle.effects.specs.Model.{well_formed};
 ghost use Rattle.effects.specs.Fits.{truth-fits, whole-fits, whole-held, fault-fits};
 
 use crate::interface::{
-    Access, DispatchResult2, Interface, PropertyFault, PropertyInfo, SetRefusal,
+    Access, DispatchResult2, Interface, PropertyFault, PropertyInfo, SetRefusal, Tables,
 };
 use crate::tuner::Tuner;
 use crate::value::{Signature, Value};
@@ -105,12 +105,20 @@ impl Interface for Tuner {
         b"com.example.Pedal.Tuner"
     }
 
-    fn properties(&self) -> &[PropertyInfo<'_>] {
-        &PROPERTIES
+    fn property_count(&self) -> usize {
+        self.properties().len()
     }
 
-    fn methods(&self) -> &[&[u8]] {
-        &METHODS
+    fn property(&self, i: usize) -> Option<PropertyInfo<'_>> {
+        self.properties().get(i).copied()
+    }
+
+    fn method_count(&self) -> usize {
+        self.methods().len()
+    }
+
+    fn method(&self, i: usize) -> Option<&[u8]> {
+        self.methods().get(i).copied()
     }
 
     fn get(&self, name: &[u8], into: &mut Value) -> Option<Result<(), PropertyFault>> {
@@ -150,5 +158,15 @@ impl Interface for Tuner {
             }
             _ => DispatchResult2::NotFound,
         }
+    }
+}
+
+impl Tables for Tuner {
+    fn properties(&self) -> &[PropertyInfo<'_>] {
+        &PROPERTIES
+    }
+
+    fn methods(&self) -> &[&[u8]] {
+        &METHODS
     }
 }

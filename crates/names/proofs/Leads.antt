@@ -82,7 +82,7 @@ tail-spells : (x : Bytes) → 0 < length x → after_lead Path x ≡ spells Path
 tail-spells [] h = absurd (omega arith)
 tail-spells (b ∷ x) h = refl
 
-spells-tail : (x : Bytes) → spells Path x ≡ true → after_lead Path x ≡ true
+pub spells-tail : (x : Bytes) → spells Path x ≡ true → after_lead Path x ≡ true
 spells-tail [] e = refl
 spells-tail (b ∷ x) e = e
 
@@ -90,7 +90,7 @@ more-than-none : (at : ℕ) (x more : Bytes) → at < length x → 0 < length (t
 more-than-none at [] more h = absurd (omega arith)
 more-than-none at (b ∷ x) more h = rw add-one (omega arith)
 
-breaks-tail : (rest : Bytes) (at : ℕ) → 0 < length rest → Breaks (spells Path) rest at → Breaks (after_lead Path) rest at
+pub breaks-tail : (rest : Bytes) (at : ℕ) → 0 < length rest → Breaks (spells Path) rest at → Breaks (after_lead Path) rest at
 breaks-tail rest at h b =
     record {
       bad = tail-spells rest h ∙ b.bad;
@@ -111,7 +111,7 @@ one_piece : (x : Bytes) → pieces (separates Member) x ≡ x ∷ []
 one_piece [] = refl
 one_piece (b ∷ x) = ap (onto b) (one_piece x)
 
-member-spells : (x : Bytes) → spells Member x ≡ after_lead Member x
+pub member-spells : (x : Bytes) → spells Member x ≡ after_lead Member x
 member-spells x = ap (all name_element) (one_piece x) ∙ and-true (name_element x)
 
 pub member-after : (a : Alphabet) → a ≡ Member → (x : Bytes) → spells a x ≡ after_lead a x

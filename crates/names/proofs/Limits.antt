@@ -1,30 +1,31 @@
 -- The limits of a path that the server makes.
-use Rattle.std.proofs.Common.{◌≡◌, ℕ, ◌-◌, ◌<◌, ◌≤◌, Bool, true, false, ◌&&◌, leb, List, [], ◌∷◌, length, take, drop, sym, refl, ap, ◌∙◌, arith}
-use Rattle.std.proofs.lemmas.Bool.{le-leb, lt-leb}
+use Rattle.std.proofs.Common.{◌≡◌, ℕ, suc, ◌+◌, ◌-◌, ◌<◌, ◌≤◌, Bool, true, false, ◌&&◌, ltb, leb, List, [], ◌∷◌, length, take, drop, sym, refl, ap, ◌∙◌, ⊎_elim, arith}
+use Rattle.std.proofs.lemmas.Bool.{cases_lt, le-leb, lt-leb}
 use Rattle.std.proofs.lemmas.Slice.{between_to_end}
 use Rattle.names.specs.Names.{Bytes, all, pieces, slash, elements_of}
 use Rattle.names.specs.Paths.{few_and_short, makeable}
-use Rattle.std.specs.List.{slice_split, list_all}
+use Rattle.std.specs.List.{slice_split, list_all, enumerate_from}
 use Rattle.names.proofs.Parts.{pieces-split}
 
-all-list : (test : Bytes → Bool) (es : List Bytes) → all test es ≡ list_all test es
-all-list test [] = refl
-all-list test (e ∷ es) = ap (λ t. test e && t) (all-list test es)
+inner-nums : (n k m : ℕ) (B : Bool) → (ltb n 16 && leb k 63) && (leb (n + 1 + m) 16 && B) ≡ leb (n + suc m) 16 && (leb k 63 && B)
+inner-nums n k m B = grind arith
 
--- the limits of the pieces that `split` gives
-split-fits : (s : Bytes) → leb (length (slice_split slash s)) 16 && list_all (λ e. leb (length e) 63) (slice_split slash s) ≡ few_and_short (pieces slash s)
-split-fits s =
-    ap (λ t. leb (length (slice_split slash s)) 16 && t) (sym (all-list (λ e. leb (length e) 63) (slice_split slash s)))
-    ∙ ap few_and_short (sym (pieces-split slash s))
+outer-nums : (n k m : ℕ) (A B : Bool) → 16 ≤ n → (ltb n 16 && leb k 63) && A ≡ leb (n + suc m) 16 && (leb k 63 && B)
+outer-nums n k m A B h = grind arith
 
-pub few-fit : (s : Bytes) (n : ℕ) (r : Bool) → n ≡ length (slice_split slash s) → n ≤ 16 → r ≡ list_all (λ e. leb (length e) 63) (slice_split slash s) → r ≡ few_and_short (pieces slash s)
-few-fit s n r e h a = a ∙ ap (λ t. t && list_all (λ e. leb (length e) 63) (slice_split slash s)) (sym (le-leb (length (slice_split slash s)) 16 (omega arith))) ∙ split-fits s
+-- the limits of the pieces that `split` gives, of which n came before
+fits-from : (n : ℕ) (es : List Bytes) → n ≤ 16 → list_all (λ p. ltb p.0 16 && leb (length p.1) 63) (enumerate_from n es) ≡ leb (n + length es) 16 && all (λ e. leb (length e) 63) es
+fits-from n [] h = sym (ap (λ t. t && true) (le-leb (n + 0) 16 (omega arith)))
+fits-from n (e ∷ es) h = ⊎_elim
+    (λ k. ap (λ t. (ltb n 16 && leb (length e) 63) && t) (fits-from (n + 1) es (omega arith)) ∙ inner-nums n (length e) (length es) (all (λ e. leb (length e) 63) es))
+    (λ k. outer-nums n (length e) (length es) _ _ k)
+    (cases_lt n 16)
 
-pub many-fit : (s : Bytes) (n : ℕ) → n ≡ length (slice_split slash s) → 16 < n → leb n 16 ≡ few_and_short (pieces slash s)
-many-fit s n e h =
-    lt-leb n 16 h
-    ∙ ap (λ t. t && list_all (λ e. leb (length e) 63) (slice_split slash s)) (sym (lt-leb (length (slice_split slash s)) 16 (omega arith)))
-    ∙ split-fits s
+pub numbered-fit : (s : Bytes) → list_all (λ p. ltb p.0 16 && leb (length p.1) 63) (enumerate_from 0 (slice_split slash s)) ≡ few_and_short (pieces slash s)
+numbered-fit s =
+    let es : List Bytes = slice_split slash s in
+    let n : 0 + length es ≡ length es = omega arith in
+    fits-from 0 es (omega arith) ∙ ap (λ m. leb m 16 && all (λ e. leb (length e) 63) es) n ∙ ap few_and_short (sym (pieces-split slash s))
 
 -- a path by its length and the elements after its first byte
 pub too-big : (s : Bytes) → 255 < length s → false ≡ makeable s

@@ -1,21 +1,47 @@
 -- The order of paths by bytes is that by elements, and goes through the tree parent first.
-use Rattle.std.proofs.Common.{◌≡◌, ℕ, Bool, true, false, ◌&&◌, ◌||◌, eqb, ltb, List, [], ◌∷◌, ◌++◌, Some, sym, refl, ◌∙◌, ap₂, arith, ⊎_elim, true≢false}
+use Rattle.std.proofs.Common.{◌≡◌, ℕ, suc, Bool, true, false, cond, not, ◌&&◌, ◌||◌, eqb, ltb, List, [], ◌∷◌, ◌++◌, length, Some, None, Option, sym, refl, ap, ◌∙◌, ap₂, arith, ⊎_elim, true≢false}
 use mathlib.Core.Bool.{false≢true}
-use Rattle.std.proofs.lemmas.Bool.Decides.{nat_tests}
-use Rattle.std.proofs.lemmas.Cmp.{same_from_slice_cmp_tested}
-use Rattle.std.specs.Cmp.Lexicographic.{slice_partial_cmp}
-use Rattle.std.specs.Ordering.{nat_cmp, is_lt, is_some_and}
+use Rattle.std.specs.Borrow.{Bor}
+use Rattle.std.specs.List.{find, zip}
 use Rattle.std.specs.Str.{bytes_eq}
 use Rattle.names.specs.Names.{Bytes, all, word, path_element, elements_of, valid_path}
 use Rattle.names.specs.Paths.{joined, spelled, beneath, bytes_before, path_before, PreOrder}
-use Rattle.std.proofs.lemmas.Bool.{and_parts, and_from, or_cases, or_left, or_right}
+use Rattle.std.proofs.lemmas.Bool.{and_parts, and_from, eqb-true, le-ltb, lt-ltb, or_cases, or_left, or_right}
 use Rattle.std.specs.Cmp.Lexicographic.{same_text}
 use Rattle.names.proofs.Spelled.{word-high, word-not-slash, word-not-low, words, path-elements, path-spelled}
 
--- `<` of slices is the order of bytes
-pub less-before : (a b : Bytes) (r : Bool) → r ≡ is_some_and is_lt (slice_partial_cmp (λ x y. Some (nat_cmp x y)) a b) → r ≡ bytes_before a b
+-- The first two bytes that differ tell the order; where none do, what has ended is before what goes on.
+abbrev pub pair-now : Bor ℕ × Bor ℕ → ℕ × ℕ
+pair-now p = (p.0.now, p.1.now)
+
+abbrev pub differs : ℕ × ℕ → Bool
+differs p = not (eqb p.0 p.1)
+
+abbrev pub told : Option (ℕ × ℕ) → ℕ → ℕ → Bool
+told None m n = ltb m n
+told (Some p) m n = ltb p.0 p.1
+
+told-more : (o : Option (ℕ × ℕ)) (m n : ℕ) → told o (suc m) (suc n) ≡ told o m n
+told-more None m n = grind arith
+told-more (Some p) m n = refl
+
+told-step : (t l : Bool) (x y m n : ℕ) (o : Option (ℕ × ℕ)) (r : Bool) → (t ≡ true → l ≡ false) → ltb x y ≡ l → told o m n ≡ r →
+    told (cond (not t) (Some (x, y)) o) (suc m) (suc n) ≡ l || (t && r)
+told-step true l x y m n o r h e k = told-more o m n ∙ k ∙ ap (λ v. v || r) (sym (h refl))
+told-step false true x y m n o r h e k = e
+told-step false false x y m n o r h e k = e
+
+first-tells : (a b : Bytes) → told (find differs (zip a b)) (length a) (length b) ≡ bytes_before a b
 unfolding bytes_before
-less-before = same_from_slice_cmp_tested nat_cmp is_lt bytes_before refl (λ _ _. refl) (λ _ _. refl) (λ x y xs ys o h. grind (arith, nat_tests))
+first-tells [] [] = refl
+first-tells [] (y ∷ b) = lt-ltb 0 (length (y ∷ b)) (omega arith)
+first-tells (x ∷ a) [] = le-ltb (length (x ∷ a)) 0 (omega arith)
+first-tells (x ∷ a) (y ∷ b) =
+    told-step (eqb x y) (ltb x y) x y (length a) (length b) (find differs (zip a b)) (bytes_before a b)
+    (λ e. let k : x ≡ y = eqb-true x y e in le-ltb x y (omega arith)) refl (first-tells a b)
+
+pub before-told : (a b : Bytes) (o : Option (ℕ × ℕ)) → o ≡ find differs (zip a b) → told o (length a) (length b) ≡ bytes_before a b
+before-told a b o h = ap (λ r. told r (length a) (length b)) h ∙ first-tells a b
 
 or-assoc-and : (a e n s p : Bool) → a || (e && (n || (s && p))) ≡ (a || (e && n)) || ((e && s) && p)
 or-assoc-and true e n s p = refl

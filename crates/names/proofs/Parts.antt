@@ -41,7 +41,7 @@ module _ (sep : ℕ → Bool) where
   pub any-several : (bs : Bytes) → list_any sep bs ≡ leb 2 (length (pieces sep bs))
   any-several bs = any-count bs ∙ two-of (count_by sep bs) ∙ ap (leb 2) (sym (ap length (pieces-split bs) ∙ length-slice_split sep bs))
 
-  parted : (p : Bytes) (b : ℕ) (q : Bytes) → sep b ≡ true → leb 2 (length (pieces sep (p ++ (b ∷ q)))) ≡ true
+  pub parted : (p : Bytes) (b : ℕ) (q : Bytes) → sep b ≡ true → leb 2 (length (pieces sep (p ++ (b ∷ q)))) ≡ true
   parted p b q e = sym (any-several (p ++ (b ∷ q))) ∙ list_any-append sep p (b ∷ q) ∙ or_right (list_any sep p) (sep b || list_any sep q) (or_left (sep b) (list_any sep q) e)
 
 module _ (a : Alphabet) where

@@ -28,7 +28,7 @@ slash-first : (b : ℕ) (s : Bytes) → b ≡ 47 → NoSlash s → (before_last 
 unfolding before_last sooner after_last later
 slash-first b s e n = (rw (n.ahead, eq-eqb b 47 e), rw (n.behind, eq-eqb b 47 e))
 
-last_found : (s : Bytes) (i : ℕ) → i < length s → get_or s i 0 ≡ 47 → NoSlash (drop (suc i) s) → LastSlash s i
+pub last_found : (s : Bytes) (i : ℕ) → i < length s → get_or s i 0 ≡ 47 → NoSlash (drop (suc i) s) → LastSlash s i
 last_found s i h e n =
     let here = slash-first (get_or s i 0) (drop (suc i) s) e n in
     let split : take i s ++ (get_or s i 0 ∷ drop (suc i) s) ≡ s = ap (λ (u : Bytes). take i s ++ u) (sym (drop-cons s i 0 h)) ∙ take-append-drop i s in

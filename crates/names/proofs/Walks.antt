@@ -14,7 +14,7 @@ cond-and : {A : Type 0} (s t : Bool) (x y : A) → cond s (cond t x y) y ≡ con
 cond-and true t x y = refl
 cond-and false t x y = refl
 
-following-parts : (p q : Bytes) → following p q ≡ cond (bytes_eq (take (length p) q) p) (Some (drop (length p) q)) None
+pub following-parts : (p q : Bytes) → following p q ≡ cond (bytes_eq (take (length p) q) p) (Some (drop (length p) q)) None
 unfolding following
 following-parts [] q = refl
 following-parts (x ∷ p) [] = refl

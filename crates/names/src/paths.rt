@@ -38,7 +38,10 @@ pub fn is_beneath(above: &[u8], path: &[u8]) -> bool
 pub fn bytes_before(a: &[u8], b: &[u8]) -> bool
     ensures { result ≡ bytes_before a.now b.now }
 {
-    a < b
+    match a.iter().zip(b).find(|(x, y)| x != y) {
+        Some((x, y)) => x < y,
+        None => a.len() < b.len(),
+    }
 }
 
 // Whether one path comes before another: a parent first, and what is beneath it before its later siblings.
@@ -93,9 +96,9 @@ fn is_slash(b: &u8) -> bool
 fn elements_fit(s: &[u8]) -> bool
     ensures { result ≡ few_and_short (pieces slash s.now) }
 {
-    s.split(is_slash).count() <= MAX_ELEMENTS
-        && s.split(is_slash)
-            .all(|element| element.len() <= MAX_ELEMENT)
+    s.split(is_slash)
+        .enumerate()
+        .all(|(i, e)| i < MAX_ELEMENTS && e.len() <= MAX_ELEMENT)
 }
 
 // Whether the server may make a node at this path.

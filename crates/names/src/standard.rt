@@ -50,7 +50,8 @@ impl TryFrom<&[u8]> for Standard {
 
     fn try_from(name: &[u8]) -> Result<Standard, NotStandard> {
         Standard::ALL
-            .into_iter()
+            .iter()
+            .copied()
             .find(|kind| kind.is_named(name))
             .ok_or(NotStandard)
     }

@@ -2,6 +2,8 @@
 // effects that the pedal has.
 #![tactic(auto)]
 
+ghost use Rattle.std.specs.Prelude.{◌≡◌, ◌+◌, min};
+
 mod bank;
 
 use bank::show_bank;
@@ -19,7 +21,7 @@ struct Tally {
 }
 
 // One line of the plan: a path, and the word of a make or an interface's name. An empty line or a comment counts as none.
-fn plan_line(rt: &HostRuntime, number: usize, line: &str, tally: &mut Tally) -> anyhow::Result<()> {
+fn plan_line(rt: &HostRuntime, number: u32, line: &str, tally: &mut Tally) -> anyhow::Result<()> {
     let mut words = line.split_whitespace();
     let Some(path) = words.next() else {
         return Ok(());
@@ -45,13 +47,20 @@ fn plan_line(rt: &HostRuntime, number: usize, line: &str, tally: &mut Tally) -> 
     Ok(())
 }
 
+// The number of the line that follows `before` others; the numbers end at 4,294,967,295, which all further lines have.
+fn line_number(before: usize) -> u32
+    ensures { result ≡ min (before + 1) 4294967295 }
+{
+    u32::try_from(before).map_or(u32::MAX, |before| before.saturating_add(1))
+}
+
 fn run(rt: &HostRuntime) -> anyhow::Result<()> {
     let mut tally = Tally {
         placeable: 0,
         refused: 0,
     };
     for (i, line) in rt.lines(rt.alloc()).enumerate() {
-        plan_line(rt, i.saturating_add(1), line?.as_str(), &mut tally)?;
+        plan_line(rt, line_number(i), line?.as_str(), &mut tally)?;
     }
     let Tally { placeable, refused } = tally;
     println!(rt; "{placeable} can be placed by their names, {refused} cannot")?;

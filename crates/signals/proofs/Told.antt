@@ -20,7 +20,7 @@ unfolding before
 before-le used [] = omega arith
 before-le used (r ∷ rs) = omega (arith, before-le used rs)
 
-before-less : (used s : ℕ) (rs : List Record) → before (min used s) rs ≡ min s (before used rs)
+pub before-less : (used s : ℕ) (rs : List Record) → before (min used s) rs ≡ min s (before used rs)
 unfolding before
 before-less used s [] = omega arith
 before-less used s (r ∷ rs) = omega (arith, before-less used s rs)
