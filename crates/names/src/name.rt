@@ -1,7 +1,8 @@
-ghost use Rattle.std.specs.Prelude.{◌≡◌, Bool, true, ⊤, refl};
+ghost use Rattle.std.specs.Prelude.{◌≡◌, Bool, true, ⊤, refl, is_ok, IfOk, IfErr};
 ghost use Rattle.names.specs.declared.grammar.Alphabet.{Alphabet};
 ghost use Rattle.names.specs.declared.grammar.Alphabet.TheVariants.{Path as of_path, Name as of_name, Member as of_member, WellKnown as of_well_known, Unique as of_unique};
 ghost use Rattle.names.specs.Names.{Bytes, valid, valid_path, valid_interface, valid_error, valid_member, valid_unique, valid_well_known};
+ghost use Rattle.names.specs.Faults.{Refusal};
 ghost use Rattle.names.specs.Kinds.{Judged};
 
 use super::grammar::{Alphabet, Invalid};
@@ -56,6 +57,15 @@ impl<'a, K: Kind> TryFrom<&'a [u8]> for Name<'a, K> {
 }
 
 impl<'a, K: Kind> Name<'a, K> {
+    // The conversion, also for an array or a `Vec`: here it is lent as a slice, and there it would be a type of its own.
+    pub fn try_from(bytes: &'a [u8]) -> Result<Self, Invalid>
+        ensures answer { is_ok result ≡ K.is_valid bytes.now }
+        ensures value { IfOk result (λ n. n.bytes.now ≡ bytes.now) }
+        ensures fault { IfErr result (λ e. Refusal K.ALPHABET bytes.now e) }
+    {
+        <Self as TryFrom<&'a [u8]>>::try_from(bytes)
+    }
+
     pub fn as_bytes(&self) -> &'a [u8]
         ensures bytes { result.now ≡ self.now.bytes.now }
         ensures valid { K.is_valid result.now ≡ true }

@@ -1,5 +1,6 @@
-ghost use Rattle.std.specs.Prelude.{◌≡◌, IfOk};
+ghost use Rattle.std.specs.Prelude.{◌≡◌, is_ok, IfOk, IfErr};
 ghost use Rattle.names.specs.Names.{valid_bus};
+ghost use Rattle.names.specs.Faults.{Refusal};
 ghost use Rattle.names.specs.Kinds.{Judged};
 ghost use Rattle.names.specs.Buses.{bus_bytes, is_unique, colon_first, bus_alphabet};
 
@@ -49,6 +50,16 @@ impl<'a> TryFrom<&'a [u8]> for BusName<'a> {
 }
 
 impl<'a> BusName<'a> {
+    // The conversion, also for an array or a `Vec`: here it is lent as a slice, and there it would be a type of its own.
+    pub fn try_from(bytes: &'a [u8]) -> Result<Self, Invalid>
+        ensures answer { is_ok result ≡ valid_bus bytes.now }
+        ensures value { IfOk result (λ n. bus_bytes n ≡ bytes.now) }
+        ensures kind { IfOk result (λ n. is_unique n ≡ colon_first bytes.now) }
+        ensures fault { IfErr result (λ e. Refusal (bus_alphabet bytes.now) bytes.now e) }
+    {
+        <Self as TryFrom<&'a [u8]>>::try_from(bytes)
+    }
+
     pub fn as_bytes(&self) -> &'a [u8]
         ensures { result.now ≡ bus_bytes self.now }
     {
