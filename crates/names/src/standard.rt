@@ -41,6 +41,13 @@ impl Standard {
     {
         name == self.name()
     }
+
+    // The standard interface of this name, if there is one.
+    pub fn of(name: &[u8]) -> Option<Standard>
+        ensures { result ≡ standard_of name.now }
+    {
+        Standard::try_from(name).ok()
+    }
 }
 
 impl TryFrom<&[u8]> for Standard {
