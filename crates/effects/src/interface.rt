@@ -102,7 +102,8 @@ pub trait Interface {
     ghost well: { (x : Self) → well_formed (model x) ≡ true };
 }
 
-// An interface that has its properties and methods in tables. Not every interface has: the names may be its own.
+// An interface that has its properties and methods in tables, as both makes have. An interface that holds its names itself
+// has no such table to lend, and is an `Interface` all the same.
 pub trait Tables: Interface {
     // The properties by ascending name: a property's number is its place here.
     fn properties(&self) -> &[PropertyInfo<'_>]

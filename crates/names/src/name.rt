@@ -57,7 +57,7 @@ impl<'a, K: Kind> TryFrom<&'a [u8]> for Name<'a, K> {
 }
 
 impl<'a, K: Kind> Name<'a, K> {
-    // The conversion, also for an array or a `Vec`: here it is lent as a slice, and there it would be a type of its own.
+    // What `TryFrom` does, and takes an array or a `Vec` too, which is lent as a slice: of the trait it would want an impl of its own.
     pub fn try_from(bytes: &'a [u8]) -> Result<Self, Invalid>
         ensures answer { is_ok result ≡ K.is_valid bytes.now }
         ensures value { IfOk result (λ n. n.bytes.now ≡ bytes.now) }

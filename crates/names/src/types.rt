@@ -50,7 +50,7 @@ impl<'a> TryFrom<&'a [u8]> for BusName<'a> {
 }
 
 impl<'a> BusName<'a> {
-    // The conversion, also for an array or a `Vec`: here it is lent as a slice, and there it would be a type of its own.
+    // What `TryFrom` does, and takes an array or a `Vec` too, which is lent as a slice: of the trait it would want an impl of its own.
     pub fn try_from(bytes: &'a [u8]) -> Result<Self, Invalid>
         ensures answer { is_ok result ≡ valid_bus bytes.now }
         ensures value { IfOk result (λ n. bus_bytes n ≡ bytes.now) }
